@@ -1,0 +1,1 @@
+// Sums and lists over the numbers below a bound: definitions and laws only.
