@@ -1,6 +1,6 @@
 -- How many channels the rows may have: what it is read from, a row at a time and in all.
 use mathlib.Core.Path.{◌≡◌, refl, sym, ap, ◌∙◌}
-use Prim.Native.Nat.{ℕ, zero, suc, ◌+◌, ◌*◌, ◌-◌, ◌/◌, ◌%◌, ◌<◌, ◌≤◌}
+use Prim.Native.Nat.{ℕ, ◌+◌, ◌*◌, ◌-◌, ◌/◌, ◌%◌, ◌<◌, ◌≤◌}
 use mathlib.Core.Bool.{Bool, true, false, cond}
 use lib.Dec.{T, eqb, ltb}
 use mathlib.Core.List.{List}
@@ -11,9 +11,9 @@ use borrow.Author.Tests.{ne_eqb, lt-ltb, le-ltb}
 use Rattle.tally.specs.Tally.{tally}
 use Rattle.tally.proofs.Sums.{tally-suc, tally_ext, tally_zero, tally_split, tally_blocks, tally_times, tally_first}
 use native.Mathlib.Nat.{zero-mul, add-mul}
-use Rattle.layout.specs.Sizes.{flag_at, id_room, port_room, node_rows, spare, row_room, node_words, node_part, edge_part}
+use Rattle.layout.specs.Sizes.{id_room, port_room, node_rows, spare, row_room, node_words, node_part, edge_part}
 use Rattle.layout.specs.Header.{ceiling_of}
-use Rattle.layout.specs.Node.{node_word, is_present, inputs_of, outputs_of}
+use Rattle.layout.specs.Node.{is_present, inputs_of, outputs_of}
 use Rattle.layout.specs.Row.{is_port, cap_of}
 use Rattle.layout.specs.Views.{ports_at, ports_of}
 use Rattle.layout.proofs.Words.{flag_read}

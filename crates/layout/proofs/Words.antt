@@ -1,14 +1,13 @@
 -- Reading after writing. Every reader is a word of the state and every writer sets one, so two laws serve all pairs of fields:
 -- the same word, and another word. That two words of two fields are not the same is `omega`'s, but for the parts with a stride.
-use mathlib.Core.Path.{◌≡◌, refl, ap}
-use Prim.Native.Nat.{ℕ, ◌+◌, ◌*◌, ◌<◌, ◌≤◌}
-use mathlib.Core.Bool.{Bool, true, false, not, cond}
-use lib.Dec.{eqb}
+use mathlib.Core.Path.{◌≡◌, refl}
+use Prim.Native.Nat.{ℕ, ◌+◌, ◌*◌, ◌<◌}
+use mathlib.Core.Bool.{Bool, true, false, cond}
 use mathlib.Core.List.{List}
-use lib.ListN.{get_or, set, length, length-set}
+use lib.ListN.{get_or, set, length-set}
 use lib.Seq.{get_or-set_same, get_or-set_other}
 use native.Mathlib.Omega.{arith}
-use Rattle.layout.specs.Sizes.{Whole, state_length, flag_at, set_flag, id_room, edge_room, channel_room, node_words, edge_words, node_part, edge_part, place_part}
+use Rattle.layout.specs.Sizes.{Whole, state_length, flag_at, set_flag, channel_room, node_words, edge_words, edge_part, place_part}
 
 pub word_same : (s : List ℕ) (i v : ℕ) → Whole s → i < state_length → get_or (set s i v) i 0 ≡ v
 word_same s i v w l = get_or-set_same s i v 0 (omega arith)

@@ -34,9 +34,11 @@ set_place s r c v = slice_set s (place_part + channel_room * r + c) v
 
 -- port w of the ports of one node, the inputs first, is one that the node has
 abbrev pub is_port : List ℕ → ℕ → ℕ → Bool
-is_port s id w = if nat_lt w port_room then nat_lt w (inputs_of s id) else nat_lt (w - port_room) (outputs_of s id)
+is_port s id w =
+    if nat_lt w port_room then nat_lt w (inputs_of s id) else nat_lt (w - port_room) (outputs_of s id)
 
 -- how many channels row r may have: the ceiling where it is a port of a present node or the spare row, else none
 unfoldable pub cap_of : List ℕ → ℕ → ℕ
 cap_of s r =
-    if r == spare then ceiling_of s else (if is_present s (r / node_rows) then (if is_port s (r / node_rows) (r % node_rows) then ceiling_of s else 0) else 0)
+    if r == spare then ceiling_of s else
+    (if is_present s (r / node_rows) then (if is_port s (r / node_rows) (r % node_rows) then ceiling_of s else 0) else 0)

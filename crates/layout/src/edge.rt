@@ -14,7 +14,7 @@ const TARGET: usize = 2;
 const INPUT: usize = 3;
 
 // A connection from an output of one node to an input of another; input HIDDEN carries no samples.
-#[derive(Drop)]
+#[derive(Clone, Copy)]
 pub struct Edge {
     pub source: usize,
     pub output: usize,

@@ -1,4 +1,6 @@
 // The state slice: its sizes, where each part begins, and one reader and one writer for each field.
+#![tactic(auto)]
+
 ghost use Rattle.std.specs.Prelude.{◌≡◌, ◌<◌, length};
 ghost use Rattle.layout.specs.Sizes.{flag_at, set_flag};
 
@@ -66,6 +68,7 @@ fn wide(x: u32) -> usize
 }
 
 // A flag is no only at 0.
+#[tactic(auto, unfolding(crate::specs::Sizes::flag_at))]
 fn flag(state: &[u32], i: usize) -> bool
     requires { i < length state.now }
     ensures { result ≡ flag_at state.now i }
@@ -73,6 +76,7 @@ fn flag(state: &[u32], i: usize) -> bool
     state[i] != 0
 }
 
+#[tactic(auto, unfolding(crate::specs::Sizes::set_flag))]
 fn set_flag(state: &mut [u32], i: usize, v: bool)
     requires { i < length state.old }
     ensures { state.new ≡ set_flag state.old i v }

@@ -37,7 +37,7 @@ pub const SPEAKERS: usize = 0;
 pub const DISCRETE: usize = 1;
 
 // How a node mixes what arrives at its inputs.
-#[derive(Drop)]
+#[derive(Clone, Copy)]
 pub struct Setting {
     pub count: usize,
     pub mode: usize,

@@ -1,13 +1,10 @@
 -- Laws of lists over the numbers from one on: their length, their elements, one more at the end, and when two are equal.
-use mathlib.Core.Path.{◌≡◌, refl, sym, ap, ap₂, ◌∙◌}
-use mathlib.Core.Logic.{⊎_elim, ◌⊎◌, inl, inr}
-use Prim.Native.Nat.{ℕ, zero, suc, ◌+◌, ◌-◌, ◌<◌, ◌≤◌}
-use mathlib.Core.Bool.{Bool, true, false, cond}
-use mathlib.Core.List.{List, [], ◌∷◌, ◌++◌}
-use lib.ListN.{length, get_or}
+use mathlib.Core.Path.{◌≡◌, refl, ap, ap₂}
+use Prim.Native.Nat.{ℕ, zero, suc, ◌+◌, ◌<◌}
+use mathlib.Core.List.{◌∷◌}
+use lib.ListN.{length}
 use native.Mathlib.Omega.{arith}
-use native.Mathlib.Decide.{ℕ_discrete}
-use Rattle.tally.specs.Listed.{listed, passing, filter, In, Distinct}
+use Rattle.tally.specs.Listed.{listed}
 
 pub listed-length : {A : Type 0} (f : ℕ → A) (n k : ℕ) → length (listed f n k) ≡ n
 unfolding listed

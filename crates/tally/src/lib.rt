@@ -1,1 +1,2 @@
 // Sums and lists over the numbers below a bound: definitions and laws only.
+#![tactic(auto)]
