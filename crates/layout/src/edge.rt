@@ -1,5 +1,5 @@
 // The stored edges, the oldest first, four words each.
-ghost use Rattle.std.specs.Prelude.{◌≡◌, ◌*◌, ◌+◌, ◌<◌, ◌^◌};
+ghost use Rattle.std.specs.Prelude.{◌≡◌, ◌<◌, ◌^◌};
 ghost use Rattle.layout.specs.Sizes.{Whole, edge_room, edge_words};
 ghost use Rattle.layout.specs.Edge.{Narrow, edge_word, set_edge_word, edge_at, set_edge_at};
 

@@ -1,5 +1,5 @@
 // The table of nodes by id: what is held of each node, a word a field.
-ghost use Rattle.std.specs.Prelude.{◌≡◌, ◌*◌, ◌+◌, ◌<◌, ◌^◌};
+ghost use Rattle.std.specs.Prelude.{◌≡◌, ◌<◌, ◌^◌};
 ghost use Rattle.layout.specs.Sizes.{Whole, id_room, node_words};
 ghost use Rattle.layout.specs.Node.{node_word, set_node_word, fresh_setting, setting_of, is_present, set_present, is_dropped, set_dropped, is_breaker, set_breaker, has_inputs, set_has_inputs, has_side_effects, set_side_effects, inputs_of, set_inputs, outputs_of, set_outputs, count_of, set_count, mode_of, set_mode, interpretation_of, set_interpretation};
 

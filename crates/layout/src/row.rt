@@ -1,5 +1,5 @@
 // Rows of channels: a row for each port and the spare row, the slot that each channel names, and the holder count of each slot.
-ghost use Rattle.std.specs.Prelude.{◌≡◌, ◌+◌, ◌<◌, ◌^◌};
+ghost use Rattle.std.specs.Prelude.{◌≡◌, ◌<◌, ◌^◌};
 ghost use Rattle.layout.specs.Sizes.{Whole, id_room, port_room, slot_room, channel_room, row_room};
 ghost use Rattle.layout.specs.Row.{input_row, output_row, holders_of, set_holders, channels_of, set_channels, place_of, set_place};
 
