@@ -1,21 +1,15 @@
 -- Reading after writing. Every reader is a word of the state and every writer sets one, so two laws serve all pairs of fields:
 -- the same word, and another word. That two words of two fields are not the same is `omega`'s, but for the parts with a stride.
-use mathlib.Core.Path.{◌≡◌, refl}
-use Prim.Native.Nat.{ℕ, ◌+◌, ◌*◌, ◌<◌}
-use mathlib.Core.Bool.{Bool, true, false, cond}
-use mathlib.Core.List.{List}
-use lib.ListN.{get_or, set, length-set}
-use lib.Seq.{get_or-set_same, get_or-set_other}
-use native.Mathlib.Omega.{arith}
+use Rattle.std.proofs.Common.{◌≡◌, refl, ℕ, ◌+◌, ◌*◌, ◌<◌, Bool, true, false, List, slice_index, slice_set, if◌then◌else◌, length-set, get_or-set_same, get_or-set_other, arith}
 use Rattle.layout.specs.Sizes.{Whole, state_length, flag_at, set_flag, channel_room, node_words, edge_words, edge_part, place_part}
 
-pub word_same : (s : List ℕ) (i v : ℕ) → Whole s → i < state_length → get_or (set s i v) i 0 ≡ v
+pub word_same : (s : List ℕ) (i v : ℕ) → Whole s → i < state_length → slice_index (slice_set s i v) i ≡ v
 word_same s i v w l = get_or-set_same s i v 0 (omega arith)
 
-pub word_other : (s : List ℕ) (i v j : ℕ) → (j ≡ i → ⊥) → get_or (set s i v) j 0 ≡ get_or s j 0
+pub word_other : (s : List ℕ) (i v j : ℕ) → (j ≡ i → ⊥) → slice_index (slice_set s i v) j ≡ slice_index s j
 word_other s i v j h = get_or-set_other s i j v 0 h
 
-pub whole_set : (s : List ℕ) (i v : ℕ) → Whole s → Whole (set s i v)
+pub whole_set : (s : List ℕ) (i v : ℕ) → Whole s → Whole (slice_set s i v)
 whole_set s i v w = simp length-set w
 
 -- ---- flags
@@ -25,16 +19,16 @@ flag_same s i true w l = rw (word_same s i 1 w l) refl
 flag_same s i false w l = rw (word_same s i 0 w l) refl
 
 -- the words of a flag that was written
-pub flag_word : (s : List ℕ) (i : ℕ) (v : Bool) (j : ℕ) → (j ≡ i → ⊥) → get_or (set_flag s i v) j 0 ≡ get_or s j 0
+pub flag_word : (s : List ℕ) (i : ℕ) (v : Bool) (j : ℕ) → (j ≡ i → ⊥) → slice_index (set_flag s i v) j ≡ slice_index s j
 unfolding set_flag
-flag_word s i v j h = word_other s i (cond v 1 0) j h
+flag_word s i v j h = word_other s i (if v then 1 else 0) j h
 
 pub flag_whole : (s : List ℕ) (i : ℕ) (v : Bool) → Whole s → Whole (set_flag s i v)
 unfolding set_flag
-flag_whole s i v w = whole_set s i (cond v 1 0) w
+flag_whole s i v w = whole_set s i (if v then 1 else 0) w
 
 -- a flag is read from its word alone
-pub flag_read : (s t : List ℕ) (i : ℕ) → get_or t i 0 ≡ get_or s i 0 → flag_at t i ≡ flag_at s i
+pub flag_read : (s t : List ℕ) (i : ℕ) → slice_index t i ≡ slice_index s i → flag_at t i ≡ flag_at s i
 unfolding flag_at
 flag_read s t i e = rw e refl
 

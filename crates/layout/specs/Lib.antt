@@ -4,4 +4,7 @@ pub mod Lists
 pub mod Node
 pub mod Edge
 pub mod Row
+pub mod Number
+pub mod Flag
+pub mod Setting
 pub mod Views

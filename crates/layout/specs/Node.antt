@@ -1,7 +1,6 @@
 -- The table of nodes by id: one reader and one writer for each field of a node.
-use Rattle.std.specs.Prelude.{ℕ, ◌+◌, ◌*◌, Bool, if◌then◌else◌, List, ◌==◌, slice_index, slice_set}
+use Rattle.std.specs.Prelude.{ℕ, ◌+◌, ◌*◌, Bool, List, slice_index, slice_set}
 use Rattle.layout.specs.Sizes.{flag_at, set_flag, node_part, node_words}
-use Rattle.layout.specs.declared.node.Setting.{Setting}
 
 -- word w of node id
 abbrev pub node_word : List ℕ → ℕ → ℕ → ℕ
@@ -79,11 +78,3 @@ has_side_effects s id = flag_at s (node_part + node_words * id + 9)
 
 abbrev pub set_side_effects : List ℕ → ℕ → Bool → List ℕ
 set_side_effects s id v = set_flag s (node_part + node_words * id + 9) v
-
--- the channel setting of node id
-abbrev pub setting_of : List ℕ → ℕ → Setting
-setting_of s id = record { count = count_of s id; mode = mode_of s id; interpretation = interpretation_of s id }
-
--- the fresh setting: count 2, Max, Speakers (count 1 where C is 1)
-abbrev pub fresh_setting : ℕ → Setting
-fresh_setting ceiling = record { count = if ceiling == 1 then 1 else 2; mode = 0; interpretation = 0 }

@@ -3,6 +3,8 @@ use Rattle.std.specs.Prelude.{ℕ, ◌+◌, ◌*◌, ◌-◌, ◌/◌, ◌%◌, 
 use Rattle.layout.specs.Sizes.{port_room, channel_room, node_rows, spare, holder_part, channel_part, place_part}
 use Rattle.layout.specs.Header.{ceiling_of}
 use Rattle.layout.specs.Node.{is_present, inputs_of, outputs_of}
+use Rattle.layout.specs.declared.row.Side.{Side}
+use Rattle.layout.specs.declared.row.Side.TheVariants.{Input, Output}
 
 -- the row of an input and of an output of node id
 abbrev pub input_row : ℕ → ℕ → ℕ
@@ -10,6 +12,10 @@ input_row id port = node_rows * id + port
 
 abbrev pub output_row : ℕ → ℕ → ℕ
 output_row id port = node_rows * id + port_room + port
+
+abbrev pub port_row : Side → ℕ → ℕ → ℕ
+port_row Input id port = input_row id port
+port_row Output id port = output_row id port
 
 -- the holder count: how many channels name slot k; slot 0 has no count
 abbrev pub holders_of : List ℕ → ℕ → ℕ

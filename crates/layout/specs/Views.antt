@@ -5,18 +5,19 @@ use Rattle.tally.specs.Listed.{listed, passing}
 use Rattle.layout.specs.Sizes.{id_room}
 use Rattle.layout.specs.Header.{order_length, muted_length, edge_count}
 use Rattle.layout.specs.Lists.{order_at, muted_at}
-use Rattle.layout.specs.Node.{is_present, inputs_of, outputs_of, setting_of, is_dropped, is_breaker, has_inputs, has_side_effects}
+use Rattle.layout.specs.Node.{is_present, inputs_of, outputs_of, is_dropped, is_breaker, has_inputs, has_side_effects}
 use Rattle.layout.specs.Edge.{edge_at}
+use Rattle.layout.specs.Setting.{setting_of}
 use Rattle.layout.specs.Row.{channels_of, place_of}
 use Rattle.layout.specs.declared.edge.Edge.{Edge}
-use Rattle.layout.specs.declared.node.Setting.{Setting}
+use Rattle.layout.specs.declared.setting.SettingWords.{SettingWords}
 
 -- all that is held of one node
 pub record Node : Type 0 where
   pub present : Bool
   pub inputs : ℕ
   pub outputs : ℕ
-  pub setting : Setting
+  pub setting : SettingWords
   pub dropped : Bool
   pub breaker : Bool
   pub fed : Bool

@@ -1,20 +1,13 @@
-// The stored edges, the oldest first, four words each.
-ghost use Rattle.std.specs.Prelude.{◌≡◌, ◌<◌, ◌^◌};
-ghost use Rattle.layout.specs.Sizes.{Whole, edge_room, edge_words};
-ghost use Rattle.layout.specs.Edge.{Narrow, edge_word, set_edge_word, edge_at, set_edge_at};
+// The stored edges, the oldest first.
+ghost use Rattle.std.specs.Prelude.{◌≡◌};
+ghost use Rattle.layout.specs.Edge.{Narrow, edge_at, set_edge_at};
 
-use crate::{EDGE, EDGE_WORDS, wide};
+use crate::Words;
+use crate::field::Number;
+use crate::index::EdgePlace;
 
-const SOURCE: usize = 0;
-
-const OUTPUT: usize = 1;
-
-const TARGET: usize = 2;
-
-const INPUT: usize = 3;
-
-// A connection from an output of one node to an input of another; input HIDDEN carries no samples.
-#[derive(Clone, Copy)]
+/// A connection from an output of one node to an input of another; input HIDDEN carries no samples.
+#[derive(Clone, Copy, Debug, PartialEq, Eq)]
 pub struct Edge {
     pub source: usize,
     pub output: usize,
@@ -22,39 +15,27 @@ pub struct Edge {
     pub input: usize,
 }
 
-fn word(state: &[u32], e: usize, w: usize) -> usize
-    requires { Whole state.now × (e < edge_room) × (w < edge_words) }
-    ensures { result ≡ edge_word state.now e w }
-{
-    wide(state[EDGE + EDGE_WORDS * e + w])
-}
-
-fn set_word(state: &mut [u32], e: usize, w: usize, v: usize)
-    requires { Whole state.old × (e < edge_room) × (w < edge_words) × (v < 2 ^ 32) }
-    ensures { state.new ≡ set_edge_word state.old e w v }
-{
-    state[EDGE + EDGE_WORDS * e + w] = v as u32;
-}
-
-// The stored edge at place `e`.
-pub fn get(state: &[u32], e: usize) -> Edge
-    requires { Whole state.now × (e < edge_room) }
-    ensures { result ≡ edge_at state.now e }
-{
-    Edge {
-        source: word(state, e, SOURCE),
-        output: word(state, e, OUTPUT),
-        target: word(state, e, TARGET),
-        input: word(state, e, INPUT),
+impl Edge {
+    /// The edge stored at a place.
+    pub fn get(state: &Words, e: EdgePlace) -> Edge
+        ensures { result ≡ edge_at state.now e.index }
+    {
+        Edge {
+            source: Number::Source(e).get(state),
+            output: Number::Output(e).get(state),
+            target: Number::Target(e).get(state),
+            input: Number::Input(e).get(state),
+        }
     }
-}
 
-pub fn put(state: &mut [u32], e: usize, edge: Edge)
-    requires { Whole state.old × (e < edge_room) × Narrow edge }
-    ensures { state.new ≡ set_edge_at state.old e edge }
-{
-    set_word(state, e, SOURCE, edge.source);
-    set_word(state, e, OUTPUT, edge.output);
-    set_word(state, e, TARGET, edge.target);
-    set_word(state, e, INPUT, edge.input);
+    /// Stores the edge at a place.
+    pub fn put(self, state: &mut Words, e: EdgePlace)
+        requires { Narrow self }
+        ensures { state.new ≡ set_edge_at state.old e.index self }
+    {
+        Number::Source(e).set(state, self.source);
+        Number::Output(e).set(state, self.output);
+        Number::Target(e).set(state, self.target);
+        Number::Input(e).set(state, self.input);
+    }
 }

@@ -1,37 +1,34 @@
-// The state slice: its sizes, where each part begins, and one reader and one writer for each field.
+// The state slice: its sizes, where each part begins, and the numbers and flags that its words hold.
 #![tactic(auto)]
 
-ghost use Rattle.std.specs.Prelude.{◌≡◌, ◌<◌, length};
-ghost use Rattle.layout.specs.Sizes.{flag_at, set_flag};
-
 pub mod edge;
-pub mod header;
-pub mod list;
-pub mod node;
+pub mod field;
+pub mod index;
 pub mod row;
+pub mod setting;
 
-// Ids 0 to 63; 0 is the destination.
+/// Ids 0 to 63; 0 is the destination.
 pub const IDS: usize = 64;
 
-// At most this many inputs and as many outputs a node.
+/// At most this many inputs and as many outputs a node.
 pub const PORTS: usize = 8;
 
-// At most this many stored edges.
+/// At most this many stored edges.
 pub const EDGES: usize = 256;
 
-// At most this many slots in the pool.
+/// At most this many slots in the pool.
 pub const SLOTS: usize = 1024;
 
-// The highest channel ceiling.
+/// The highest channel ceiling.
 pub const CHANNELS: usize = 32;
 
-// The samples of one channel in one quantum.
+/// The samples of one channel in one quantum.
 pub const QUANTUM: usize = 128;
 
-// The hidden input port: an edge to it counts for ordering and carries no samples.
+/// The hidden input port, a number because the C boundary and the state write it so: an edge to it counts for ordering and carries no samples.
 pub const HIDDEN: usize = 255;
 
-// A row for each port of each id, the inputs first, and the spare row last.
+/// A row for each port of each id, the inputs first, and the spare row last.
 pub const NODE_ROWS: usize = 2 * PORTS;
 
 pub const SPARE: usize = NODE_ROWS * IDS;
@@ -58,32 +55,8 @@ const CHANNEL: usize = HOLDER + SLOTS;
 
 const PLACE: usize = CHANNEL + ROWS;
 
-// The one fixed length of the state slice, in words.
+/// The one fixed length of the state slice, in words.
 pub const STATE: usize = PLACE + CHANNELS * ROWS;
 
-fn wide(x: u32) -> usize
-    ensures { result ≡ x }
-{
-    x as usize
-}
-
-// A flag is no only at 0.
-#[tactic(auto, unfolding(crate::specs::Sizes::flag_at))]
-fn flag(state: &[u32], i: usize) -> bool
-    requires { i < length state.now }
-    ensures { result ≡ flag_at state.now i }
-{
-    state[i] != 0
-}
-
-#[tactic(auto, unfolding(crate::specs::Sizes::set_flag))]
-fn set_flag(state: &mut [u32], i: usize, v: bool)
-    requires { i < length state.old }
-    ensures { state.new ≡ set_flag state.old i v }
-{
-    if v {
-        state[i] = 1;
-        return;
-    }
-    state[i] = 0;
-}
+/// The state as the host lends it, once its length is known to be the one.
+pub type Words = [u32; STATE];
