@@ -1,3 +1,4 @@
 pub mod Words
 pub mod Caps
 pub mod Settings
+pub mod Bounds

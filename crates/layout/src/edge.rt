@@ -17,7 +17,7 @@ pub struct Edge {
 
 impl Edge {
     /// The edge stored at a place.
-    pub fn get(state: &Words, e: EdgePlace) -> Edge
+    pub fn read(state: &Words, e: EdgePlace) -> Edge
         ensures { result ≡ edge_at state.now e.index }
     {
         Edge {
@@ -28,8 +28,8 @@ impl Edge {
         }
     }
 
-    /// Stores the edge at a place.
-    pub fn put(self, state: &mut Words, e: EdgePlace)
+    /// Stores the edge at a place. The clause asks what `Number::set` asks, of four numbers.
+    pub fn write(self, state: &mut Words, e: EdgePlace)
         requires { Narrow self }
         ensures { state.new ≡ set_edge_at state.old e.index self }
     {

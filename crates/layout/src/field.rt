@@ -1,6 +1,6 @@
 // The words of the state by name: each is a number or a flag, with one reader and one writer for all.
 ghost use Rattle.std.specs.Prelude.{◌≡◌, ◌<◌, ◌+◌, ◌*◌, ◌^◌, ℕ, Bool, List, slice_index, slice_set};
-ghost use Rattle.layout.specs.Sizes.{node_part, node_words, edge_part, edge_words, flag_at, set_flag};
+ghost use Rattle.layout.specs.Sizes.{Whole, node_part, node_words, edge_part, edge_words, flag_at, set_flag};
 ghost use Rattle.layout.specs.Number.{number_of, set_number};
 ghost use Rattle.layout.specs.Flag.{flag_of, put_flag};
 
@@ -33,19 +33,19 @@ pub enum Number {
     Inputs(Id),
     /// How many outputs the node has.
     Outputs(Id),
-    /// The channel count of its setting.
+    /// The channel count of the node's setting.
     Count(Id),
-    /// The count mode of its setting, as a number.
+    /// The count mode of the node's setting, as a number.
     Mode(Id),
-    /// The channel interpretation of its setting, as a number.
+    /// The channel interpretation of the node's setting, as a number.
     Interpretation(Id),
-    /// The node that a stored edge leaves.
+    /// The node that the stored edge leaves.
     Source(EdgePlace),
-    /// The output that it leaves by.
+    /// The output that the stored edge leaves by.
     Output(EdgePlace),
-    /// The node that it enters.
+    /// The node that the stored edge enters.
     Target(EdgePlace),
-    /// The input that it enters by.
+    /// The input that the stored edge enters by.
     Input(EdgePlace),
     /// How many channels name the slot; slot 0 has no count.
     Holders(Slot),
@@ -98,14 +98,16 @@ impl Number {
         }
     }
 
-    /// The number that the state holds there.
+    /// The number that the state holds.
     pub fn get(self, state: &Words) -> usize
-        ensures { result ≡ number_of state.now self }
+        ensures value { result ≡ number_of state.now self }
+        ensures whole { Whole state.now }
     {
+        // The library has no `From` between a word and an index, and the check proves that the cast loses nothing; so too below.
         state[self.word()] as usize
     }
 
-    /// Writes the number there. Callers count in `usize`, so the clause stands here and not a cast at each of them.
+    /// Writes the number. Callers count in `usize`, so the clause stands here and not a cast at each of them.
     pub fn set(self, state: &mut Words, v: usize)
         requires { v < 2 ^ 32 }
         ensures { state.new ≡ set_number state.old self v }
@@ -123,16 +125,17 @@ pub enum Flag {
     Open,
     /// Whether there is a node under the id.
     Present(Id),
-    /// Whether the control side dropped its handle.
+    /// Whether the control side dropped the node's handle.
     Dropped(Id),
     /// Whether the node is marked as a breaker of loops.
     Breaker(Id),
-    /// Whether a signal was delivered to it since its last finish.
+    /// Whether a signal was delivered to the node since its last finish.
     HasInputs(Id),
     /// Whether the node has side effects, told when it was added.
     SideEffects(Id),
 }
 
+// As `Number` reads and writes; one trait for both would need the value's type and its way to a word as members, for two impls.
 impl Flag {
     fn word(self) -> usize
         ensures reads { (s : List ℕ) → flag_at s result ≡ flag_of s self }
@@ -150,7 +153,7 @@ impl Flag {
         }
     }
 
-    /// No only at 0.
+    /// Whether the state says yes: it says no only at 0.
     #[tactic(auto, unfolding(crate::specs::Sizes::flag_at))]
     pub fn get(self, state: &Words) -> bool
         ensures { result ≡ flag_of state.now self }
@@ -158,7 +161,7 @@ impl Flag {
         state[self.word()] != 0
     }
 
-    /// Yes is written as 1.
+    /// Writes yes as 1 and no as 0.
     #[tactic(auto, unfolding(crate::specs::Sizes::set_flag))]
     pub fn set(self, state: &mut Words, v: bool)
         ensures { state.new ≡ put_flag state.old self v }

@@ -1,7 +1,7 @@
 // Numbers below a bound. What the state is indexed by is one of these, so no reader and no writer asks for a range.
 ghost use Rattle.std.specs.Prelude.{◌≡◌, ◌<◌, ◌≤◌, MatchResult};
 
-use crate::{CHANNELS, EDGES, IDS, PORTS, ROWS, SLOTS};
+use crate::{CHANNELS, EDGES, IDS, ROWS, SLOTS};
 
 /// A number below `N`.
 #[derive(Clone, Copy, Debug, PartialEq, Eq, PartialOrd, Ord)]
@@ -36,9 +36,6 @@ pub type ListPlace = Below<IDS>;
 
 /// A place among the stored edges.
 pub type EdgePlace = Below<EDGES>;
-
-/// An input or an output of a node.
-pub type Port = Below<PORTS>;
 
 /// A slot of the pool.
 pub type Slot = Below<SLOTS>;

@@ -25,16 +25,20 @@ pub const CHANNELS: usize = 32;
 /// The samples of one channel in one quantum.
 pub const QUANTUM: usize = 128;
 
-/// The hidden input port, a number because the C boundary and the state write it so: an edge to it counts for ordering and carries no samples.
+/// The hidden input port, a number because the C boundary and the state write it so. An edge to it counts for ordering and carries no samples.
 pub const HIDDEN: usize = 255;
 
-/// A row for each port of each id, the inputs first, and the spare row last.
+/// The rows of one id: a row for each of its ports, the inputs first.
 pub const NODE_ROWS: usize = 2 * PORTS;
 
+/// The spare row, which stands after the rows of all ids.
 pub const SPARE: usize = NODE_ROWS * IDS;
 
+/// All rows, the spare one with them.
 pub const ROWS: usize = SPARE + 1;
 
+// The parts of the state. Four of them are lists with their length in a word elsewhere, because the host lends one slice of fixed length: the order,
+// the muted list, the edges and the places of a row.
 const HEADER_WORDS: usize = 16;
 
 const NODE_WORDS: usize = 16;

@@ -6,19 +6,19 @@ use crate::Words;
 use crate::field::Number;
 use crate::index::Id;
 
-/// How the channel count of an input comes about.
+/// How the channel count of an input comes about, with the numbers of the C boundary.
 #[derive(Clone, Copy, Debug, PartialEq, Eq)]
 pub enum ChannelCountMode {
-    Max,
-    ClampedMax,
-    Explicit,
+    Max = 0,
+    ClampedMax = 1,
+    Explicit = 2,
 }
 
-/// How channels of one count become channels of another.
+/// How channels of one count become channels of another, with the numbers of the C boundary.
 #[derive(Clone, Copy, Debug, PartialEq, Eq)]
 pub enum ChannelInterpretation {
-    Speakers,
-    Discrete,
+    Speakers = 0,
+    Discrete = 1,
 }
 
 /// A number that no count mode has, or no channel interpretation.
@@ -40,6 +40,7 @@ impl TryFrom<usize> for ChannelCountMode {
     }
 }
 
+// The arms are all that the two conversions do not share.
 impl TryFrom<usize> for ChannelInterpretation {
     type Error = UnknownNumber;
 
@@ -91,7 +92,7 @@ pub struct SettingWords {
 
 impl SettingWords {
     /// The numbers that the state holds of a node's setting.
-    pub fn get(state: &Words, id: Id) -> SettingWords
+    pub fn read(state: &Words, id: Id) -> SettingWords
         ensures { result ≡ setting_of state.now id.index }
     {
         SettingWords {
@@ -106,6 +107,7 @@ impl From<Setting> for SettingWords {
     ghost from_gives = { λ setting words. words ≡ words_of setting };
 
     fn from(setting: Setting) -> SettingWords {
+        // By `as`, as Rust reads an enum's number.
         SettingWords {
             count: setting.count,
             mode: setting.mode as usize,
