@@ -1,10 +1,25 @@
 -- The same laws one fact at a time, as a caller needs them, and the turns of the loops over rows.
-use Rattle.std.proofs.Common.{◌≡◌, refl, ap, ◌∙◌, ℕ, suc, ◌+◌, ◌-◌, ◌<◌, ◌≤◌, List, arith}
+use Rattle.std.proofs.Common.{◌≡◌, refl, ap, ◌∙◌, length, slice_set, eq-eqb, ne_eqb, ℕ, suc, ◌+◌, ◌-◌, ◌<◌, ◌≤◌, List, arith}
 use Rattle.layout.specs.Sizes.{row_room}
 use Rattle.layout.specs.Header.{slots_of}
 use Rattle.layout.specs.Row.{channels_of, place_of, cap_of}
-use Rattle.pool.specs.Rows.{Held, popped, pushed, popped_by, truncated, shared_from, shared}
+use Rattle.pool.specs.Rows.{Held, released, named, popped, pushed, popped_by, truncated, shared_from, shared}
+use Rattle.pool.specs.Pool.{Mem, mem, Sound, slot_of, plus, owned, rewritten, added_channel, added_from, added_row}
+use Rattle.pool.proofs.Steps.{released_at, released_renamed, released_held, named_at}
+use Rattle.pool.proofs.Owning.{owned_is, added_channel_is}
 use Rattle.pool.proofs.Rows.{popped_turned, pushed_turned, truncated_turned, slots_same, caps_same}
+
+-- ---- a place released
+module _ (s : List ℕ) (r c : ℕ) (h : Held s) (l : r < row_room) (m : c < channels_of s r) where
+  pub released_channels : (q : ℕ) → q < row_room → channels_of (released s r c) q ≡ channels_of s q
+  released_channels q p = (released_renamed s r c h l m).channels q p
+
+  pub released_slots : slots_of (released s r c) ≡ slots_of s
+  released_slots = (released_renamed s r c h l m).header 1 (omega arith)
+
+  -- and named anew
+  pub moved_at : (k : ℕ) → k < slots_of s → place_of (named (released s r c) r c k) r c ≡ k
+  moved_at k f = named_at (released s r c) r c k (released_held s r c h l m) l (rw (released_channels r l) m) (released_at s r c h l m) (rw released_slots f)
 
 -- ---- a channel less
 pub popped_held : (s : List ℕ) (r : ℕ) → Held s → r < row_room → 0 < channels_of s r → Held (popped s r)
@@ -74,3 +89,56 @@ module _ (from to : ℕ) (s : List ℕ) (l : from < row_room) (m : to < row_room
     pub sharing_end : channels_of s from ≤ c → t ≡ shared s from to
     unfolding shared_from
     sharing_end n = let e : channels_of s from - c ≡ 0 = omega arith in rw e at g.rest
+
+-- ---- a channel added
+pub live_inside : (m : Mem) (r c : ℕ) → Sound m → r < row_room → c < channels_of m.state r → place_of m.state r c < length m.pool
+live_inside m r c s l p = rw s.slots (s.held.inside r c l p)
+
+module _ (m : Mem) (r c q d : ℕ) where
+  pub add_none : place_of m.state q d ≡ 0 → added_channel m r c q d ≡ m
+  unfolding added_channel
+  add_none e = rw (eq-eqb (place_of m.state q d) 0 e) refl
+
+  pub add_names : (place_of m.state q d ≡ 0 → ⊥) → place_of m.state r c ≡ 0 → added_channel m r c q d ≡ mem (named m.state r c (place_of m.state q d)) m.pool
+  unfolding added_channel
+  add_names u e = rw (ne_eqb (place_of m.state q d) 0 u, eq-eqb (place_of m.state r c) 0 e) refl
+
+  pub add_sums : Sound m → r < row_room → c < channels_of m.state r → q < row_room → d < channels_of m.state q → (r ≡ q → c ≡ d → ⊥)
+      → (place_of m.state q d ≡ 0 → ⊥) → (place_of m.state r c ≡ 0 → ⊥)
+      → added_channel m r c q d
+      ≡ mem (owned m r c).state
+      (slice_set (owned m r c).pool (place_of (owned m r c).state r c)
+      (plus (slot_of (owned m r c).pool (place_of (owned m r c).state r c)) (slot_of (owned m r c).pool (place_of m.state q d))))
+  unfolding added_channel rewritten
+  add_sums s l p x e u v w =
+      let k = (owned_is m r c s l p).kept in
+      rw (ne_eqb (place_of m.state q d) 0 v, ne_eqb (place_of m.state r c) 0 w, k.places q d x e u) refl
+
+-- ---- a row added
+-- memory o is on the way from memory m to where row x is added to row r: the channels below c have been
+pub record Adding (r x : ℕ) (m : Mem) (c : ℕ) (o : Mem) : Type 0 where
+  pub sound : Sound o
+  pub row : channels_of o.state r ≡ channels_of m.state r
+  pub other : channels_of o.state x ≡ channels_of m.state x
+  pub rest : added_from r x o (channels_of m.state r - c) c ≡ added_row m r x
+
+module _ (r x : ℕ) (m : Mem) where
+  pub adding_first : Sound m → Adding r x m 0 m
+  unfolding added_row
+  adding_first s =
+      let e : channels_of m.state r - 0 ≡ channels_of m.state r = omega arith in
+      record { sound = s; row = refl; other = refl; rest = rw e refl }
+
+  module _ (c : ℕ) (o : Mem) (g : Adding r x m c o) where
+    pub adding_turn : r < row_room → x < row_room → (r ≡ x → ⊥) → channels_of m.state r ≡ channels_of m.state x → c < channels_of m.state r → Adding r x m (c + 1) (added_channel o r c x c)
+    unfolding added_from
+    adding_turn l k u a n =
+        let e1 = g.row in
+        let e2 = g.other in
+        let p = (added_channel_is o r c x c g.sound l (omega arith) k (omega arith) (λ y _. u y)).kept in
+        let e : channels_of m.state r - c ≡ suc (channels_of m.state r - (c + 1)) = omega arith in
+        record { sound = p.sound; row = p.channels r l ∙ g.row; other = p.channels x k ∙ g.other; rest = rw e at g.rest }
+
+    pub adding_end : channels_of m.state r ≤ c → o ≡ added_row m r x
+    unfolding added_from
+    adding_end n = let e : channels_of m.state r - c ≡ 0 = omega arith in rw e at g.rest

@@ -3,3 +3,6 @@ pub mod Steps
 pub mod Rows
 pub mod Free
 pub mod Calls
+pub mod Each
+pub mod Owning
+pub mod RowSums
