@@ -6,3 +6,5 @@ pub mod Calls
 pub mod Each
 pub mod Owning
 pub mod RowSums
+pub mod Fresh
+pub mod AsLists
