@@ -1,32 +1,14 @@
--- The same laws one fact at a time, as a caller needs them, and the turns of the loops over rows.
-use Rattle.std.proofs.Common.{◌≡◌, refl, ap, ◌∙◌, length, slice_set, eq-eqb, ne_eqb, ℕ, suc, ◌+◌, ◌-◌, ◌<◌, ◌≤◌, List, arith}
+-- What the functions of this crate are proved by: the turns of the loops over rows, and the ways through the branches.
+use Rattle.std.proofs.Common.{◌≡◌, refl, ap, ◌∙◌, slice_set, eq-eqb, ne_eqb, ℕ, suc, ◌+◌, ◌-◌, ◌<◌, ◌≤◌, List, arith}
 use Rattle.layout.specs.Sizes.{row_room}
-use Rattle.layout.specs.Header.{slots_of}
 use Rattle.layout.specs.Row.{channels_of, place_of, cap_of}
-use Rattle.pool.specs.Rows.{Held, released, named, popped, pushed, popped_by, truncated, shared_from, shared}
+use Rattle.pool.specs.Rows.{Held, named, popped, pushed, popped_by, truncated, shared_from, shared}
 use Rattle.pool.specs.Pool.{Mem, mem, Sound, slot_of, plus, owned, rewritten, added_channel, added_from, added_row}
-use Rattle.pool.proofs.Steps.{released_at, released_renamed, released_held, named_at}
-use Rattle.pool.proofs.Owning.{owned_is, added_channel_is}
-use Rattle.pool.proofs.Rows.{popped_turned, pushed_turned, truncated_turned, slots_same, caps_same}
-
--- ---- a place released
-module _ (s : List ℕ) (r c : ℕ) (h : Held s) (l : r < row_room) (m : c < channels_of s r) where
-  pub released_channels : (q : ℕ) → q < row_room → channels_of (released s r c) q ≡ channels_of s q
-  released_channels q p = (released_renamed s r c h l m).channels q p
-
-  pub released_slots : slots_of (released s r c) ≡ slots_of s
-  released_slots = (released_renamed s r c h l m).header 1 (omega arith)
-
-  -- and named anew
-  pub moved_at : (k : ℕ) → k < slots_of s → place_of (named (released s r c) r c k) r c ≡ k
-  moved_at k f = named_at (released s r c) r c k (released_held s r c h l m) l (rw (released_channels r l) m) (released_at s r c h l m) (rw released_slots f)
-
--- ---- a channel less
-pub popped_held : (s : List ℕ) (r : ℕ) → Held s → r < row_room → 0 < channels_of s r → Held (popped s r)
-popped_held s r h l m = (popped_turned s r h l m).held
-
-pub popped_channels : (s : List ℕ) (r : ℕ) → Held s → r < row_room → 0 < channels_of s r → channels_of (popped s r) r ≡ channels_of s r - 1
-popped_channels s r h l m = (popped_turned s r h l m).channels
+use Rattle.pool.proofs.Steps.{some, short, released_held, grown_held, grown_channels}
+use Rattle.pool.proofs.Free.{free_slot}
+use Rattle.pool.proofs.Facts.{released_channels, released_slots, moved_at, popped_held, popped_channels, truncated_held, truncated_channels, truncated_caps, truncated_slots, live_inside}
+use Rattle.pool.proofs.Owning.{put_length, owned_same, owned_moved, owned_is, added_channel_is}
+use Rattle.pool.proofs.Rows.{grown_slots, popped_turned, pushed_turned, truncated_turned, slots_same, caps_same}
 
 -- ---- some channels less
 pub truncated_turn : (s : List ℕ) (r n : ℕ) → Held s → r < row_room → n < channels_of s r → truncated (popped s r) r n ≡ truncated s r n
@@ -38,19 +20,6 @@ truncated_turn s r n h l m =
 pub truncated_end : (s : List ℕ) (r n : ℕ) → channels_of s r ≤ n → truncated s r n ≡ s
 unfolding truncated popped_by
 truncated_end s r n m = let e : channels_of s r - n ≡ 0 = omega arith in rw e refl
-
-module _ (s : List ℕ) (r : ℕ) (h : Held s) (l : r < row_room) where
-  pub emptied_held : Held (truncated s r 0)
-  emptied_held = (truncated_turned s r 0 h l (omega arith)).held
-
-  pub emptied_channels : channels_of (truncated s r 0) r ≡ 0
-  emptied_channels = (truncated_turned s r 0 h l (omega arith)).channels
-
-  pub emptied_cap : cap_of (truncated s r 0) r ≡ cap_of s r
-  emptied_cap = caps_same r s (truncated s r 0) (truncated_turned s r 0 h l (omega arith)).but r l
-
-  pub emptied_slots : slots_of (truncated s r 0) ≡ slots_of s
-  emptied_slots = slots_same r s (truncated s r 0) (truncated_turned s r 0 h l (omega arith)).but
 
 -- ---- the channels of another row
 -- state t is on the way from state s to where row `to` has the channels of row `from`: it has the first c of them
@@ -67,7 +36,7 @@ module _ (from to : ℕ) (s : List ℕ) (l : from < row_room) (m : to < row_room
   sharing_first h =
       let a = truncated_turned s to 0 h m (omega arith) in
       let e : channels_of s from - 0 ≡ channels_of s from = omega arith in
-      record { held = a.held; source = a.but.channels from l u; target = a.channels; cap = emptied_cap s to h m; rest = rw e refl }
+      record { held = a.held; source = a.but.channels from l u; target = a.channels; cap = truncated_caps s to 0 h m (omega arith) to m; rest = rw e refl }
 
   module _ (c : ℕ) (t : List ℕ) (g : Sharing from to s c t) where
     pub sharing_turn : c < channels_of s from → channels_of s from ≤ cap_of s to → Sharing from to s (c + 1) (pushed t to (place_of t from c))
@@ -91,9 +60,6 @@ module _ (from to : ℕ) (s : List ℕ) (l : from < row_room) (m : to < row_room
     sharing_end n = let e : channels_of s from - c ≡ 0 = omega arith in rw e at g.rest
 
 -- ---- a channel added
-pub live_inside : (m : Mem) (r c : ℕ) → Sound m → r < row_room → c < channels_of m.state r → place_of m.state r c < length m.pool
-live_inside m r c s l p = rw s.slots (s.held.inside r c l p)
-
 module _ (m : Mem) (r c q d : ℕ) where
   pub add_none : place_of m.state q d ≡ 0 → added_channel m r c q d ≡ m
   unfolding added_channel
@@ -142,3 +108,16 @@ module _ (r x : ℕ) (m : Mem) where
     pub adding_end : channels_of m.state r ≤ c → o ≡ added_row m r x
     unfolding added_from
     adding_end n = let e : channels_of m.state r - c ≡ 0 = omega arith in rw e at g.rest
+
+-- ---- what each function's proof may use
+pub ruleset pushing = (short, grown_held, grown_channels, grown_slots)
+
+pub ruleset truncating = (popped_held, popped_channels, truncated_turn, truncated_end)
+
+pub ruleset clearing = (some, truncated_held, truncated_channels, truncated_caps, truncated_slots)
+
+pub ruleset sharing = (short, truncated_channels, sharing_first, sharing_end)
+
+pub ruleset owning = (free_slot, released_held, released_channels, released_slots, moved_at, live_inside, put_length, owned_same, owned_moved)
+
+pub ruleset adding = (live_inside, add_none, add_names, add_sums)

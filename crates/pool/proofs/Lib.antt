@@ -2,9 +2,10 @@ pub mod Names
 pub mod Steps
 pub mod Rows
 pub mod Free
-pub mod Calls
 pub mod Each
 pub mod Owning
 pub mod RowSums
-pub mod Fresh
+pub mod Facts
+pub mod Calls
 pub mod AsLists
+pub mod Fresh

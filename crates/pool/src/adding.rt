@@ -10,7 +10,7 @@ use layout::field::Number;
 use layout::index::{Below, Channel, Row, Slot};
 
 /// The channel names a slot that no other channel names, with the same samples; the answer is that slot.
-#[tactic(auto, using(crate::proofs::Free::free_slot, crate::proofs::Steps::released_held, crate::proofs::Calls::released_channels, crate::proofs::Calls::released_slots, crate::proofs::Calls::moved_at, crate::proofs::Calls::live_inside, crate::proofs::Owning::put_length, crate::proofs::Owning::owned_same, crate::proofs::Owning::owned_moved), unfolding(crate::specs::Pool::moved))]
+#[tactic(auto, using(crate::proofs::Calls::owning), unfolding(crate::specs::Pool::moved))]
 pub fn own(state: &mut Words, pool: &mut [Samples], row: Row, channel: Channel) -> Slot
     requires sound { Sound (mem state.old pool.old) }
     requires channel_in { channel.index < channels_of state.old row.index }
@@ -30,7 +30,7 @@ pub fn own(state: &mut Words, pool: &mut [Samples], row: Row, channel: Channel) 
 }
 
 /// Adds a channel of row `other` to a channel of row `row`.
-#[tactic(auto, using(crate::proofs::Calls::live_inside, crate::proofs::Calls::add_none, crate::proofs::Calls::add_names, crate::proofs::Calls::add_sums))]
+#[tactic(auto, using(crate::proofs::Calls::adding))]
 pub fn add_channel(
     state: &mut Words,
     pool: &mut [Samples],

@@ -22,7 +22,7 @@ pub fn pop(state: &mut Words, row: Row)
 }
 
 /// The row has one more channel, which names the slot.
-#[tactic(auto, using(crate::proofs::Steps::short, crate::proofs::Steps::grown_held, crate::proofs::Steps::grown_channels, crate::proofs::Rows::grown_slots), unfolding(crate::specs::Rows::grown, crate::specs::Rows::pushed))]
+#[tactic(auto, using(crate::proofs::Calls::pushing), unfolding(crate::specs::Rows::grown, crate::specs::Rows::pushed))]
 pub fn push(state: &mut Words, row: Row, slot: Slot)
     requires held { Held state.old }
     requires room { channels_of state.old row.index < cap_of state.old row.index }
@@ -37,7 +37,7 @@ pub fn push(state: &mut Words, row: Row, slot: Slot)
 }
 
 /// The row keeps its first `count` channels at most.
-#[tactic(auto, using(crate::proofs::Calls::popped_held, crate::proofs::Calls::popped_channels, crate::proofs::Calls::truncated_turn, crate::proofs::Calls::truncated_end))]
+#[tactic(auto, using(crate::proofs::Calls::truncating))]
 pub fn truncate(state: &mut Words, row: Row, count: usize)
     requires { Held state.old }
     ensures { state.new ≡ truncated state.old row.index count }
@@ -48,7 +48,7 @@ pub fn truncate(state: &mut Words, row: Row, count: usize)
 }
 
 /// The row becomes one silent channel.
-#[tactic(auto, using(crate::proofs::Steps::some, crate::proofs::Calls::emptied_held, crate::proofs::Calls::emptied_channels, crate::proofs::Calls::emptied_cap, crate::proofs::Calls::emptied_slots), unfolding(crate::specs::Rows::cleared))]
+#[tactic(auto, using(crate::proofs::Calls::clearing), unfolding(crate::specs::Rows::cleared))]
 pub fn clear(state: &mut Words, row: Row)
     requires held { Held state.old }
     requires some { 0 < cap_of state.old row.index }
@@ -59,7 +59,7 @@ pub fn clear(state: &mut Words, row: Row)
 }
 
 /// Row `to` has the channels of row `from`.
-#[tactic(auto, using(crate::proofs::Steps::short, crate::proofs::Calls::emptied_channels, crate::proofs::Calls::sharing_first, crate::proofs::Calls::sharing_end))]
+#[tactic(auto, using(crate::proofs::Calls::sharing))]
 pub fn share(state: &mut Words, from: Row, to: Row)
     requires held { Held state.old }
     requires apart { from.index ≢ to.index }
