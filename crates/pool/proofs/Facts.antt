@@ -43,6 +43,9 @@ module _ (s : List ℕ) (r : ℕ) (h : Held s) (l : r < row_room) (some : 0 < ch
   pub popped_held : Held (popped s r)
   popped_held = (popped_turned s r h l some).held
 
+  pub popped_sound : (p : List (List Float)) → Sound (mem s p) → Sound (mem (popped s r) p)
+  popped_sound p x = turned_sound r _ s (popped s r) (popped_turned s r h l some) p x
+
   pub popped_channels : channels_of (popped s r) r ≡ channels_of s r - 1
   popped_channels = (popped_turned s r h l some).channels
 
@@ -58,6 +61,9 @@ module _ (s : List ℕ) (r : ℕ) (h : Held s) (l : r < row_room) (some : 0 < ch
 module _ (s : List ℕ) (r k : ℕ) (h : Held s) (l : r < row_room) (room : channels_of s r < cap_of s r) (f : k < slots_of s) where
   pub pushed_held : Held (pushed s r k)
   pushed_held = (pushed_turned s r k h l room f).held
+
+  pub pushed_sound : (p : List (List Float)) → Sound (mem s p) → Sound (mem (pushed s r k) p)
+  pushed_sound p x = turned_sound r _ s (pushed s r k) (pushed_turned s r k h l room f) p x
 
   pub pushed_channels : channels_of (pushed s r k) r ≡ channels_of s r + 1
   pushed_channels = (pushed_turned s r k h l room f).channels
@@ -75,6 +81,9 @@ module _ (s : List ℕ) (r n : ℕ) (h : Held s) (l : r < row_room) (most : n �
   pub truncated_held : Held (truncated s r n)
   truncated_held = (truncated_turned s r n h l most).held
 
+  pub truncated_sound : (p : List (List Float)) → Sound (mem s p) → Sound (mem (truncated s r n) p)
+  truncated_sound p x = turned_sound r _ s (truncated s r n) (truncated_turned s r n h l most) p x
+
   pub truncated_channels : channels_of (truncated s r n) r ≡ n
   truncated_channels = (truncated_turned s r n h l most).channels
 
@@ -91,6 +100,9 @@ module _ (s : List ℕ) (r : ℕ) (h : Held s) (l : r < row_room) (some : 0 < ca
   pub cleared_held : Held (cleared s r)
   cleared_held = (cleared_turned s r h l some).held
 
+  pub cleared_sound : (p : List (List Float)) → Sound (mem s p) → Sound (mem (cleared s r) p)
+  cleared_sound p x = turned_sound r _ s (cleared s r) (cleared_turned s r h l some) p x
+
   pub cleared_channels : channels_of (cleared s r) r ≡ 1
   cleared_channels = (cleared_turned s r h l some).channels
 
@@ -106,6 +118,9 @@ module _ (s : List ℕ) (r : ℕ) (h : Held s) (l : r < row_room) (some : 0 < ca
 module _ (s : List ℕ) (from to : ℕ) (h : Held s) (l : from < row_room) (m : to < row_room) (apart : from ≡ to → ⊥) (fits : channels_of s from ≤ cap_of s to) where
   pub shared_held : Held (shared s from to)
   shared_held = (shared_turned from to l m apart s h fits).held
+
+  pub shared_sound : (p : List (List Float)) → Sound (mem s p) → Sound (mem (shared s from to) p)
+  shared_sound p x = turned_sound to _ s (shared s from to) (shared_turned from to l m apart s h fits) p x
 
   pub shared_channels : channels_of (shared s from to) to ≡ channels_of s from
   shared_channels = (shared_turned from to l m apart s h fits).channels

@@ -1,9 +1,11 @@
 -- A slot is free whenever one is wanted.
-use Rattle.std.proofs.Common.{inl, ◌≡◌, refl, sym, ◌∙◌, ℕ, zero, suc, ◌+◌, ◌-◌, ◌<◌, ◌≤◌, Bool, true, false, List, if◌then◌else◌, ◌==◌, eq-eqb, ne_eqb, arith}
+use Rattle.std.proofs.Common.{inl, ◌≡◌, refl, sym, ◌∙◌, ℕ, zero, suc, ◌+◌, ◌*◌, ◌-◌, ◌<◌, ◌≤◌, Bool, true, false, List, if◌then◌else◌, ◌==◌, eq-eqb, ne_eqb, arith}
 use Rattle.std.proofs.Math.Decide.{ℕ_discrete, dec_lt}
-use Rattle.layout.specs.Sizes.{slot_room, row_room}
-use Rattle.layout.specs.Header.{slots_of}
+use Rattle.layout.specs.Sizes.{slot_room, channel_room, row_room}
+use Rattle.layout.specs.Header.{ceiling_of, slots_of}
 use Rattle.layout.specs.Row.{holders_of, channels_of, place_of, cap_of}
+use Rattle.layout.specs.Views.{ports_of}
+use Rattle.layout.proofs.Caps.{Ported, cap_most, caps_in_all}
 use Rattle.tally.specs.Tally.{tally, is}
 use Rattle.tally.proofs.Sums.{tally_ext, tally_le, tally_slack, tally_ones, tally_ge, tally_swap, tally_is_0, tally_is_1}
 use Rattle.pool.specs.Rows.{Held, names_in, names, lowest_from, lowest_free_of}
@@ -15,10 +17,6 @@ pub lowest_step : (s : List ℕ) (n k : ℕ) → k < n → lowest_from s (n - k)
 unfolding lowest_from
 lowest_step s n k h = let e : n - k ≡ suc (n - (k + 1)) = omega arith in rw e refl
 
-pub lowest_end : (s : List ℕ) (n k : ℕ) → n ≤ k → lowest_from s (n - k) k ≡ k
-unfolding lowest_from
-lowest_end s n k h = let e : n - k ≡ 0 = omega arith in rw e refl
-
 pub lowest_low : (s : List ℕ) (n k : ℕ) → k ≤ lowest_from s n k
 unfolding lowest_from
 lowest_low s zero k = omega arith
@@ -29,30 +27,27 @@ lowest_low s (suc n) k = go (holders_of s k == 0) (lowest_low s n (k + 1))
     go false h = omega arith
 
 -- one that is not past the end is free
-pub lowest_free : (s : List ℕ) (n k : ℕ) → lowest_from s n k < k + n → holders_of s (lowest_from s n k) ≡ 0
+pub lowest_is_free : (s : List ℕ) (n k : ℕ) → lowest_from s n k < k + n → holders_of s (lowest_from s n k) ≡ 0
 unfolding lowest_from
-lowest_free s zero k h = absurd (omega arith)
-lowest_free s (suc n) k h = go (ℕ_discrete (holders_of s k) 0) (lowest_free s n (k + 1)) h
+lowest_is_free s zero k h = absurd (omega arith)
+lowest_is_free s (suc n) k h = go (ℕ_discrete (holders_of s k) 0) (lowest_is_free s n (k + 1)) h
   where
     go : Dec (holders_of s k ≡ 0) → (lowest_from s n (k + 1) < k + 1 + n → holders_of s (lowest_from s n (k + 1)) ≡ 0)
         → (if holders_of s k == 0 then k else lowest_from s n (k + 1)) < k + suc n → holders_of s (if holders_of s k == 0 then k else lowest_from s n (k + 1)) ≡ 0
     go (yes e) ih p = rw (eq-eqb (holders_of s k) 0 e) e
     go (no u) ih p = let q = ne_eqb (holders_of s k) 0 u in let z = rw q at p in rw q (ih (omega arith))
 
--- where it is past the end, none is free
-pub lowest_none : (s : List ℕ) (n k : ℕ) → k + n ≤ lowest_from s n k → (j : ℕ) → j < n → 1 ≤ holders_of s (k + j)
+-- those below it are not
+pub lowest_below : (s : List ℕ) (n k j : ℕ) → k ≤ j → j < lowest_from s n k → 1 ≤ holders_of s j
 unfolding lowest_from
-lowest_none s zero k h j p = absurd (omega arith)
-lowest_none s (suc n) k h j p = go (ℕ_discrete (holders_of s k) 0) (lowest_none s n (k + 1)) h (ℕ_discrete j 0)
+lowest_below s zero k j a b = absurd (omega arith)
+lowest_below s (suc n) k j a b = go (ℕ_discrete (holders_of s k) 0) (lowest_below s n (k + 1) j) b (ℕ_discrete j k)
   where
-    go : Dec (holders_of s k ≡ 0) → (k + 1 + n ≤ lowest_from s n (k + 1) → (j : ℕ) → j < n → 1 ≤ holders_of s (k + 1 + j))
-        → k + suc n ≤ (if holders_of s k == 0 then k else lowest_from s n (k + 1)) → Dec (j ≡ 0) → 1 ≤ holders_of s (k + j)
+    go : Dec (holders_of s k ≡ 0) → (k + 1 ≤ j → j < lowest_from s n (k + 1) → 1 ≤ holders_of s j)
+        → j < (if holders_of s k == 0 then k else lowest_from s n (k + 1)) → Dec (j ≡ k) → 1 ≤ holders_of s j
     go (yes e) ih q d = let z = rw (eq-eqb (holders_of s k) 0 e) at q in absurd (omega arith)
-    go (no u) ih q (yes e) = let i : k + j ≡ k = omega arith in rw i (omega arith)
-    go (no u) ih q (no v) =
-        let z = rw (ne_eqb (holders_of s k) 0 u) at q in
-        let i : k + j ≡ k + 1 + (j - 1) = omega arith in
-        rw i (ih (omega arith) (j - 1) (omega arith))
+    go (no u) ih q (yes e) = rw e (omega arith)
+    go (no u) ih q (no v) = let z = rw (ne_eqb (holders_of s k) 0 u) at q in ih (omega arith) z
 
 -- the search begins with slot 1
 pub lowest_first : (s : List ℕ) → lowest_free_of s < slots_of s → (1 < slots_of s) × (lowest_from s (slots_of s - 1) 1 ≡ lowest_free_of s)
@@ -71,6 +66,13 @@ lowest_turn s k l m e u =
 -- where it has none, it is the one
 pub lowest_here : (s : List ℕ) (k : ℕ) → k < slots_of s → lowest_from s (slots_of s - k) k ≡ lowest_free_of s → holders_of s k ≡ 0 → k ≡ lowest_free_of s
 lowest_here s k l e z = sym (lowest_step s (slots_of s) k l ∙ rw (eq-eqb (holders_of s k) 0 z) refl) ∙ e
+
+-- ---- the first lines of the rule, from what set-up and adding a node see to
+pub capped_from : (s : List ℕ) → ceiling_of s ≤ channel_room → (r : ℕ) → r < row_room → cap_of s r ≤ channel_room
+capped_from s l r _ = let a = cap_most s r in omega arith
+
+pub roomy_from : (s : List ℕ) → Ported s → (ports_of s + 1) * ceiling_of s < slots_of s → tally (λ r. cap_of s r) row_room < slots_of s
+roomy_from s p l = let e = caps_in_all s p in omega arith
 
 -- ---- counting
 -- how many channels all rows have
@@ -135,7 +137,7 @@ free_slot s r c h l p u = go (dec_lt (lowest_from s (slots_of s - 1) 1) (slots_o
         let m = slots_of s - 1 in
         let each : (j : ℕ) → j < m → 1 ≤ names s (suc j) = λ j x.
         let e : 1 + j ≡ suc j = omega arith in
-        rw (← h.counted (suc j) (omega arith) (omega arith)) (rw e at (lowest_none s m 1 q j x)) in
+        rw (← h.counted (suc j) (omega arith) (omega arith)) (rw e at (lowest_below s m 1 (1 + j) (omega arith) (omega arith))) in
         let ones = tally_ones m in
         elim d [
           | yes z ↦
@@ -161,7 +163,7 @@ free_slot s r c h l p u = go (dec_lt (lowest_from s (slots_of s - 1) 1) (slots_o
 -- and what it is given is free, and is not silence
 pub free_slot_zero : (s : List ℕ) → 1 ≤ slots_of s → lowest_free_of s < slots_of s → holders_of s (lowest_free_of s) ≡ 0
 unfolding lowest_free_of
-free_slot_zero s some l = lowest_free s (slots_of s - 1) 1 (omega arith)
+free_slot_zero s some l = lowest_is_free s (slots_of s - 1) 1 (omega arith)
 
 pub free_slot_low : (s : List ℕ) → 0 < lowest_free_of s
 unfolding lowest_free_of
