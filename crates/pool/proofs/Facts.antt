@@ -1,15 +1,15 @@
 -- The laws one fact at a time, as the proof of a caller takes them: after each step the rule, the counts of channels, the ceilings and the slots.
 use Rattle.std.proofs.Common.{◌≡◌, refl, ◌∙◌, ℕ, ◌+◌, ◌-◌, ◌<◌, ◌≤◌, List, length, arith}
 use Rattle.std.specs.Float.Ieee.{Float}
-use Rattle.layout.specs.Sizes.{row_room}
+use Rattle.layout.specs.Sizes.{quantum, row_room}
 use Rattle.layout.specs.Header.{slots_of}
 use Rattle.layout.specs.Row.{holders_of, channels_of, place_of, cap_of}
 use Rattle.pool.specs.Rows.{Held, released, named, popped, pushed, truncated, cleared, shared}
-use Rattle.pool.specs.Pool.{Mem, mem, Sound, samples_of, owned, added_channel, added_row}
+use Rattle.pool.specs.Pool.{Mem, mem, Sound, samples_of, owned, rewritten, added_channel, added_row}
 use Rattle.pool.proofs.Names.{cap_kept}
 use Rattle.pool.proofs.Steps.{released_at, released_renamed, released_held, named_at}
 use Rattle.pool.proofs.Rows.{Turned, slots_same, caps_same, popped_turned, pushed_turned, truncated_turned, cleared_turned, shared_turned}
-use Rattle.pool.proofs.Owning.{owned_is, added_channel_is}
+use Rattle.pool.proofs.Owning.{owned_is, written_is, added_channel_is}
 use Rattle.pool.proofs.RowSums.{added_row_is}
 
 -- ---- what a step on a row says of all steps on rows
@@ -157,6 +157,23 @@ module _ (m : Mem) (r c : ℕ) (s : Sound m) (l : r < row_room) (p : c < channel
 
   pub owned_samples : samples_of (owned m r c) r c ≡ samples_of m r c
   owned_samples = (owned_is m r c s l p).samples
+
+  -- and then written
+  module _ (xs : List Float) (e : length xs ≡ quantum) where
+    pub written_sound : Sound (rewritten xs (owned m r c) r c)
+    written_sound = (written_is xs m r c s l p e).kept.sound
+
+    pub written_channels : (q : ℕ) → q < row_room → channels_of (rewritten xs (owned m r c) r c).state q ≡ channels_of m.state q
+    written_channels q x = (written_is xs m r c s l p e).kept.channels q x
+
+    pub written_slots : slots_of (rewritten xs (owned m r c) r c).state ≡ slots_of m.state
+    written_slots = (written_is xs m r c s l p e).kept.header 1 (omega arith)
+
+    pub written_caps : (q : ℕ) → q < row_room → cap_of (rewritten xs (owned m r c) r c).state q ≡ cap_of m.state q
+    written_caps q x = cap_kept m.state (rewritten xs (owned m r c) r c).state (written_is xs m r c s l p e).kept.header q x
+
+    pub written_samples : samples_of (rewritten xs (owned m r c) r c) r c ≡ xs
+    written_samples = (written_is xs m r c s l p e).samples
 
   module _ (q d : ℕ) (x : q < row_room) (y : d < channels_of m.state q) (apart : r ≡ q → c ≡ d → ⊥) where
     pub added_channel_sound : Sound (added_channel m r c q d)

@@ -57,6 +57,10 @@ kept_then r c m n o a b = record {
   samples = λ q d p e u. b.samples q d p (rw (a.channels q p) e) u ∙ a.samples q d p e u;
 }
 
+pub rewritten_state : (m : Mem) (r c : ℕ) (xs : List Float) → (rewritten xs m r c).state ≡ m.state
+unfolding rewritten
+rewritten_state m r c xs = refl
+
 pub rewritten_place : (m : Mem) (r c : ℕ) (xs : List Float) → place_of (rewritten xs m r c).state r c ≡ place_of m.state r c
 unfolding rewritten
 rewritten_place m r c xs = refl
@@ -222,6 +226,27 @@ module _ (xs : List Float) (m : Mem) (r c : ℕ) (s : Sound m) (l : r < row_room
   unfolding rewritten
   rewritten_others j u = put_other m.pool (place_of m.state r c) xs j u
 
+-- what writing a channel, once it has a slot of its own, leaves: a slot of its own with the new samples, and all other slots with theirs
+pub record Written (xs : List Float) (r c : ℕ) (m n : Mem) : Type 0 where
+  pub kept : Kept r c m n
+  pub sole : holders_of n.state (place_of n.state r c) ≡ 1
+  pub samples : samples_of n r c ≡ xs
+  pub others : (j : ℕ) → (j ≡ place_of n.state r c → ⊥) → slot_of n.pool j ≡ slot_of m.pool j
+
+pub written_is : (xs : List Float) (m : Mem) (r c : ℕ) → Sound m → r < row_room → c < channels_of m.state r → length xs ≡ quantum → Written xs r c m (rewritten xs (owned m r c) r c)
+written_is xs m r c s l p e =
+    let n = owned m r c in
+    let own = owned_is m r c s l p in
+    let kp = own.kept in
+    let live = rw (sym (kp.channels r l)) at p in
+    let here = rewritten_place n r c xs in
+    record {
+      kept = kept_then r c m n (rewritten xs n r c) kp (rewritten_kept xs n r c kp.sound l live own.sole e);
+      sole = rw (rewritten_state n r c xs) own.sole;
+      samples = rewritten_samples xs n r c kp.sound l live own.sole;
+      others = λ j y. rewritten_others xs n r c kp.sound l live own.sole j (λ z. y (z ∙ sym here)) ∙ own.others j (λ z. y (z ∙ sym here));
+    }
+
 -- ---- adding
 -- the samples of a channel that names slot a, with those of one that names slot b added
 abbrev pub sum_of : ℕ → ℕ → List Float → List Float → List Float
@@ -266,13 +291,6 @@ added_channel_is m r c q d s l p x e u = go (ℕ_discrete (place_of m.state q d)
         let t' = ne_eqb (place_of m.state r c) 0 w in
         let n = owned m r c in
         let own = owned_is m r c s l p in
-        let kp = own.kept in
-        let live = rw (sym (kp.channels r l)) at p in
         let xs = plus (samples_of n r c) (samples_of n q d) in
-        let wr = rewritten_samples xs n r c kp.sound l live own.sole in
-        rw (t, t')
-        (record {
-          kept = kept_then r c m n (summed n r c q d) kp (rewritten_kept xs n r c kp.sound l live own.sole (plus_length (samples_of n r c) (samples_of n q d)));
-          sum = rw (t, t') (wr ∙ ap₂ plus own.samples (kp.samples q d x e u));
-          others = λ j y. rewritten_others xs n r c kp.sound l live own.sole j (λ z. y (z ∙ sym (rewritten_place n r c xs))) ∙ own.others j (λ z. y (z ∙ sym (rewritten_place n r c xs)));
-        })
+        let wr = written_is xs m r c s l p (plus_length (samples_of n r c) (samples_of n q d)) in
+        rw (t, t') (record { kept = wr.kept; sum = rw (t, t') (wr.samples ∙ ap₂ plus own.samples (own.kept.samples q d x e u)); others = wr.others })
