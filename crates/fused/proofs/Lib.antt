@@ -1,0 +1,10 @@
+pub mod Jam
+pub mod Rounding
+pub mod Pack
+pub mod Sums
+pub mod Cuts
+pub mod Steps
+pub mod Patterns
+pub mod Exact
+pub mod Sum
+pub mod Controls

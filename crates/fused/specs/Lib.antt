@@ -1,0 +1,2 @@
+pub mod Fused
+pub mod Steps
