@@ -1,8 +1,9 @@
 -- Rounding to odd: a number that is cut at d, with one bit for whether anything was cut off. It is on the same side of every multiple of d as the number was,
 -- so sums, differences, comparisons and a later rounding at a multiple of 2 * d see no difference.
-use Rattle.std.proofs.Common.{◌≡◌, refl, sym, ap, ◌∙◌, subst, ◌⊎◌, inl, inr, ℕ, zero, suc, ◌+◌, ◌-◌, ◌*◌, ◌/◌, ◌%◌, ◌≤◌, ◌<◌, div-add-mod', mod-lt, mul_comm, mul_assoc, mul-le-mul_right, le_of_eq, mul_left_comm, suc-mul, add-mul, lt_of_not-le, lt_irrefl, eq-zero-or-pos, eq-or-lt_of_le, le_of_suc-le-suc, arith, Bool, true, false, not, cond, T, leb, eqb, eqb→eq, leb→le}
+use Rattle.std.proofs.Common.{◌≡◌, refl, sym, ap, ◌∙◌, subst, inl, inr, ℕ, zero, suc, ◌+◌, ◌-◌, ◌*◌, ◌/◌, ◌%◌, ◌≤◌, ◌<◌, div-add-mod', mod-lt, mul_comm, mul_assoc, mul-le-mul_right, le_of_eq, mul_left_comm, suc-mul, add-mul, lt_of_not-le, lt_irrefl, eq-zero-or-pos, le_of_suc-le-suc, arith, Bool, not, cond, T, eqb, eqb→eq, leb→le}
 use Rattle.std.proofs.Math.Arith.{digits_div, digits_mod, digits_lt}
 use Rattle.std.proofs.Math.Dec.{is_le, compare_is_eq, nleb→lt, eqb_refl, eqb-suc-zero}
+use Rattle.std.proofs.lemmas.Bool.{cases_order}
 use Rattle.std.specs.Float.Ieee.{nearest}
 use Rattle.std.specs.Float.Ieee.Nearest.{closest}
 use Prim.Native.Nat.{compare, Ordering}
@@ -52,7 +53,7 @@ cut_jam n d w a t c =
     (λ h. (let b = bit_some (n % d) (subst (λ (z : ℕ). 0 < z) (sym y) h) in omega arith))
 
 -- ---- x * d against a * d + t
-under : (x a d : ℕ) → x < a → x * d + d ≤ a * d
+pub under : (x a d : ℕ) → x < a → x * d + d ≤ a * d
 under x a d h = subst (λ (z : ℕ). z ≤ a * d) (suc-mul x d ∙ refl) (mul-le-mul_right d h)
 
 up_to : (x a d t : ℕ) → x * d ≤ a * d + t → t < d → x ≤ a
@@ -222,24 +223,6 @@ compare_gt a b h = go (compare a b) (leb→le a b)
     go Prim.Native.Nat.Ordering.eq p = absurd (no (p tt) h)
     go Prim.Native.Nat.Ordering.gt p = refl
 
-pub le_or_lt : (a b : ℕ) → (a ≤ b) ⊎ (b < a)
-le_or_lt a b = go (leb a b) (leb→le a b) (nleb→lt a b)
-  where
-    go : (x : Bool) → (T x → a ≤ b) → (T (not x) → b < a) → (a ≤ b) ⊎ (b < a)
-    go true p q = inl (p tt)
-    go false p q = inr (q tt)
-
-pub three : (a b : ℕ) → (a < b) ⊎ ((a ≡ b) ⊎ (b < a))
-three a b = go (leb a b) (leb→le a b) (nleb→lt a b)
-  where
-    more : (a ≡ b) ⊎ (a < b) → (a < b) ⊎ ((a ≡ b) ⊎ (b < a))
-    more (inl e) = inr (inl e)
-    more (inr l) = inl l
-
-    go : (x : Bool) → (T x → a ≤ b) → (T (not x) → b < a) → (a < b) ⊎ ((a ≡ b) ⊎ (b < a))
-    go true p q = more (eq-or-lt_of_le (p tt))
-    go false p q = inr (inr (q tt))
-
 -- ---- a rounding at a multiple of 2 * d
 
 -- b * d + t against h * d as 2 * b + s against 2 * h
@@ -251,9 +234,9 @@ same_side b h d t s r p q =
     let Q = (2 * b + s) * 2 in
     let W = 2 * (2 * h) in
     let z : s ≤ 1 = elim (eq-zero-or-pos t) [ inl e ↦ (let k = p e in omega arith) | inr l ↦ (let k = q l in omega arith) ] in
-    elim (three b h) [
-      | inl l ↦ (let u : b * d + d ≤ h * d = under b h d l in compare_lt L R (omega arith) ∙ sym (compare_lt Q W (omega arith)))
-      | inr (inl e) ↦
+    elim (cases_order b h) [
+      | inr (inl l) ↦ (let u : b * d + d ≤ h * d = under b h d l in compare_lt L R (omega arith) ∙ sym (compare_lt Q W (omega arith)))
+      | inl e ↦
           (let u : b * d ≡ h * d = ap (λ (x : ℕ). x * d) e in
           elim (eq-zero-or-pos t) [
             | inl i ↦ (let k = p i in compare_eq L R (omega arith) ∙ sym (compare_eq Q W (omega arith)))

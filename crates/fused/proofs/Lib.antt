@@ -8,3 +8,8 @@ pub mod Patterns
 pub mod Exact
 pub mod Sum
 pub mod Controls
+pub mod Distances
+pub mod Signs
+pub mod Results
+pub mod Library
+pub mod Words

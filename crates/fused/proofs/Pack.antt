@@ -1,19 +1,18 @@
 -- The pattern of q * 2 ^ k of binary32's smallest values is the sign, and k * 2 ^ 23 + q below it: q's leading digit adds one to the exponent's field, and a q of 25 digits another.
 -- From the infinity's pattern on it is the infinity's.
-use Rattle.std.proofs.Common.{◌≡◌, refl, sym, ap, ◌∙◌, subst, ◌⊎◌, inl, inr, ℕ, suc, ◌+◌, ◌-◌, ◌*◌, ◌/◌, ◌%◌, ◌^◌, ◌≤◌, ◌<◌, min, mul_comm, mul-le-mul_right, le_trans, le_of_eq, le_of_lt, lt_of_le_of_lt, div-lt_iff_lt-mul, le-div_iff_mul-le, mul-div_cancel, eq-or-lt_of_le, zero-mul, arith, Bool, true, false, cond, ltb, lit<, pow-add, pow_pos, pow_mono, shl_lt, Float}
+use Rattle.std.proofs.Common.{◌≡◌, refl, sym, ap, ◌∙◌, subst, ◌⊎◌, inl, inr, ℕ, suc, ◌+◌, ◌-◌, ◌*◌, ◌/◌, ◌^◌, ◌≤◌, ◌<◌, min, mul-le-mul_right, le_of_eq, le_of_lt, lt_of_le_of_lt, mul-div_cancel, eq-or-lt_of_le, zero-mul, arith, Bool, true, false, cond, ltb, lit<, pow-add, pow_pos, pow_mono, shl_lt, Float}
 use Rattle.std.proofs.Math.Arith.{le→nltb}
 use Rattle.std.proofs.Math.Pow.{pow-lt}
 use Rattle.std.proofs.Math.Nat.{min-eq_left, min-eq_right}
 use Rattle.std.proofs.lemmas.Bool.{cases_lt}
+use Rattle.std.proofs.lemmas.Nat.{mul-le}
 use Rattle.std.specs.Float.{nan, inf, fin, binary32}
 use Rattle.std.specs.Float.Ieee.{down, size, odd, units, round, of_bits, to_bits}
 use Rattle.std.specs.Float.Ieee.Bits.{of_bits-to_bits, cond_no}
 use Rattle.std.specs.Float.Ieee.Exact.{HasValue, units_val}
-use Rattle.std.specs.Float.Ieee.Fits.{down_pos, nearest-le, round-fits}
-use Rattle.std.specs.Float.Ieee.Nearest.{closest, nearest-ge}
-use Prim.Native.Nat.{compare}
-use Rattle.fused.proofs.Jam.{le_or_lt}
-use Rattle.fused.proofs.Rounding.{HasMore, size_more, pow_swap, round_at}
+use Rattle.std.specs.Float.Ieee.Fits.{down_pos, round-fits}
+use Rattle.std.specs.Float.Ieee.Nearest.{closest}
+use Rattle.fused.proofs.Rounding.{HasMore, size_more, pow_swap, round_at, kept_le, kept_ge}
 use Rattle.fused.specs.Steps.{Drops}
 
 -- ---- the pattern of a finite value, by its size in units
@@ -46,27 +45,24 @@ low_bits q k c h r = go (eq-or-lt_of_le h)
         (ap (λ (x : ℕ). x / 2 ^ suc k) f ∙ mul-div_cancel (2 ^ 23) (pow_pos (suc k)))
         (omega arith)
 
-to_bits-units : (s : Bool) (q k : ℕ) → q ≤ 2 ^ 24 → (0 < k → 2 ^ 23 ≤ q) → q * 2 ^ k < 2 ^ 277 → to_bits binary32 (units binary32 s q k) ≡ cond s (2 ^ 31) 0 + (k * 2 ^ 23 + q)
+pub to_bits-units : (s : Bool) (q k : ℕ) → q ≤ 2 ^ 24 → (0 < k → 2 ^ 23 ≤ q) → q * 2 ^ k < 2 ^ 277 → to_bits binary32 (units binary32 s q k) ≡ cond s (2 ^ 31) 0 + (k * 2 ^ 23 + q)
 to_bits-units s q k h r l = to_bits_is (units binary32 s q k) s (q * 2 ^ k) (units_val binary32 s q k l) ∙ low_bits q k (cond s (2 ^ 31) 0) h r
 
 -- ---- where the infinities begin
-mul_le : (a b c d : ℕ) → a ≤ b → c ≤ d → a * c ≤ b * d
-mul_le a b c d h k = le_trans (mul-le-mul_right c h) (subst (λ (x : ℕ). b * c ≤ x) (mul_comm d b) (subst (λ (x : ℕ). x ≤ d * b) (mul_comm c b) (mul-le-mul_right b k)))
-
-under_top : (q k : ℕ) → q ≤ 2 ^ 24 → (0 < k → 2 ^ 23 ≤ q) → k * 2 ^ 23 + q < 255 * 2 ^ 23 → q * 2 ^ k < 2 ^ 277
+pub under_top : (q k : ℕ) → q ≤ 2 ^ 24 → (0 < k → 2 ^ 23 ≤ q) → k * 2 ^ 23 + q < 255 * 2 ^ 23 → q * 2 ^ k < 2 ^ 277
 under_top q k h r m = go (eq-or-lt_of_le k_le)
   where
     no : 254 ≤ k → 2 ^ 23 ≤ q → ⊥
     no a b = omega arith
 
     k_le : k ≤ 253
-    k_le = elim (le_or_lt k 253) [ inl a ↦ a | inr b ↦ absurd (no b (r (omega arith))) ]
+    k_le = elim (cases_lt 253 k) [ inl b ↦ absurd (no b (r (omega arith))) | inr a ↦ a ]
 
     go : (k ≡ 253) ⊎ (k < 253) → q * 2 ^ k < 2 ^ 277
     go (inl e) = subst (λ (x : ℕ). q * 2 ^ x < 2 ^ 277) (sym e) (shl_lt 24 253 (omega arith))
-    go (inr l) = lt_of_le_of_lt (mul_le q (2 ^ 24) (2 ^ k) (2 ^ 252) h (pow_mono {i = k} {j = 252} (omega arith))) (lit< tt)
+    go (inr l) = lt_of_le_of_lt (mul-le q (2 ^ k) (2 ^ 24) (2 ^ 252) h (pow_mono {i = k} {j = 252} (omega arith))) (lit< tt)
 
-over_top : (q k : ℕ) → q ≤ 2 ^ 24 → (0 < k → 2 ^ 23 ≤ q) → 255 * 2 ^ 23 ≤ k * 2 ^ 23 + q → 2 ^ 277 ≤ q * 2 ^ k
+pub over_top : (q k : ℕ) → q ≤ 2 ^ 24 → (0 < k → 2 ^ 23 ≤ q) → 255 * 2 ^ 23 ≤ k * 2 ^ 23 + q → 2 ^ 277 ≤ q * 2 ^ k
 over_top q k h r m = go (eq-or-lt_of_le k_ge)
   where
     k_ge : 253 ≤ k
@@ -74,9 +70,9 @@ over_top q k h r m = go (eq-or-lt_of_le k_ge)
 
     go : (253 ≡ k) ⊎ (253 < k) → 2 ^ 277 ≤ q * 2 ^ k
     go (inl e) = subst (λ (x : ℕ). 2 ^ 277 ≤ q * 2 ^ x) e (mul-le-mul_right {m = 2 ^ 24} {n = q} (2 ^ 253) (omega arith))
-    go (inr l) = mul_le (2 ^ 23) q (2 ^ 254) (2 ^ k) (r (omega arith)) (pow_mono l)
+    go (inr l) = mul-le (2 ^ 23) (2 ^ 254) q (2 ^ k) (r (omega arith)) (pow_mono l)
 
-units_over : (s : Bool) (q k : ℕ) → 2 ^ 277 ≤ q * 2 ^ k → units binary32 s q k ≡ inf s
+pub units_over : (s : Bool) (q k : ℕ) → 2 ^ 277 ≤ q * 2 ^ k → units binary32 s q k ≡ inf s
 unfolding units
 units_over s q k h = cond_no (ltb (q * 2 ^ k) (2 ^ 277)) (odd 25 s q k 149) (inf s) (le→nltb (q * 2 ^ k) (2 ^ 277) h)
 
@@ -87,29 +83,23 @@ infinity false = refl
 
 -- ---- the number n / 2 ^ 299, that drops k digits, rounded
 module _ (n k : ℕ) (p : Drops n 150 k) where
-  pub kept_le : closest n (2 ^ (150 + k)) ≤ 2 ^ 24
-  kept_le =
-      let u = 2 ^ (150 + k) in
-      le_trans (nearest-le (n / u) (compare (n % u * 2) u))
-      ((div-lt_iff_lt-mul (pow_pos (150 + k))).1 (subst (λ (x : ℕ). n < x) (ap (λ (x : ℕ). 2 ^ x) (omega arith) ∙ pow-add 2 24 (150 + k)) p.below))
+  kept_most : closest n (2 ^ (150 + k)) ≤ 2 ^ 24
+  kept_most = kept_le n 150 k p
 
-  kept_ge : 0 < k → 2 ^ 23 ≤ closest n (2 ^ (150 + k))
-  kept_ge h =
-      let u = 2 ^ (150 + k) in
-      le_trans ((le-div_iff_mul-le (pow_pos (150 + k))).1 (subst (λ (x : ℕ). x ≤ n) (ap (λ (x : ℕ). 2 ^ x) (omega arith) ∙ pow-add 2 23 (150 + k)) (p.above h)))
-      (nearest-ge (n / u) (compare (n % u * 2) u))
+  kept_least : 0 < k → 2 ^ 23 ≤ closest n (2 ^ (150 + k))
+  kept_least = kept_ge n 150 k p
 
   pub pack_under : (s : Bool) → k * 2 ^ 23 + closest n (2 ^ (150 + k)) < 255 * 2 ^ 23
       → of_bits binary32 (cond s (2 ^ 31) 0 + (k * 2 ^ 23 + closest n (2 ^ (150 + k)))) ≡ round binary32 s n (2 ^ 299)
   pack_under s h =
       let q = closest n (2 ^ (150 + k)) in
-      ap (of_bits binary32) (sym (ap (to_bits binary32) (round_at s n 150 k p) ∙ to_bits-units s q k kept_le kept_ge (under_top q k kept_le kept_ge h)))
+      ap (of_bits binary32) (sym (ap (to_bits binary32) (round_at s n 150 k p) ∙ to_bits-units s q k kept_most kept_least (under_top q k kept_most kept_least h)))
       ∙ of_bits-to_bits binary32 (round binary32 s n (2 ^ 299)) (round-fits binary32 s n (2 ^ 299))
 
   pub pack_over : (s : Bool) → 255 * 2 ^ 23 ≤ k * 2 ^ 23 + closest n (2 ^ (150 + k)) → of_bits binary32 (cond s (2 ^ 31) 0 + 255 * 2 ^ 23) ≡ round binary32 s n (2 ^ 299)
   pack_over s h =
       let q = closest n (2 ^ (150 + k)) in
-      infinity s ∙ sym (round_at s n 150 k p ∙ units_over s q k (over_top q k kept_le kept_ge h))
+      infinity s ∙ sym (round_at s n 150 k p ∙ units_over s q k (over_top q k kept_most kept_least h))
 
   -- the code takes the lesser of the two
   pub pack : (s : Bool) → of_bits binary32 (cond s (2 ^ 31) 0 + min (k * 2 ^ 23 + closest n (2 ^ (150 + k))) (255 * 2 ^ 23)) ≡ round binary32 s n (2 ^ 299)

@@ -39,6 +39,13 @@ fraction_full b h = go (field b) h
     go zero h = absurd (no h)
     go (suc x) h = subst (λ (t : Bool). 2 ^ 23 ≤ cond t (b % 2 ^ 23) (2 ^ 23 + b % 2 ^ 23)) (sym (eqb-suc-zero x)) (omega arith)
 
+pub fraction_small : (b : ℕ) → fraction b < 2 ^ 24
+fraction_small b = go (field b)
+  where
+    go : (x : ℕ) → cond (eqb x 0) (b % 2 ^ 23) (2 ^ 23 + b % 2 ^ 23) < 2 ^ 24
+    go zero = omega arith
+    go (suc x) = subst (λ (t : Bool). cond t (b % 2 ^ 23) (2 ^ 23 + b % 2 ^ 23) < 2 ^ 24) (sym (eqb-suc-zero x)) (omega arith)
+
 -- ---- an infinity's pattern
 low_digits : (b : ℕ) → field b * 2 ^ 23 + b % 2 ^ 23 ≡ b % 2 ^ 31
 low_digits b = ap (λ (y : ℕ). field b * 2 ^ 23 + y) (sym (mod-mod-pow b 8 23)) ∙ div-add-mod' (b % 2 ^ 31) (2 ^ 23)

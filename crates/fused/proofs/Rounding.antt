@@ -1,11 +1,12 @@
 -- `round` at binary32 of a number over a power of two, by how many digits it drops; and a number that was rounded to odd far enough below rounds as the number itself.
-use Rattle.std.proofs.Common.{◌≡◌, sym, ap, ◌∙◌, subst, ◌⊎◌, inl, inr, ℕ, zero, suc, ◌+◌, ◌-◌, ◌*◌, ◌/◌, ◌%◌, ◌^◌, ◌≤◌, ◌<◌, mul_assoc, mul-le-mul_right, mul_left_comm, mul-pos, lt_of_not-le, not-le_of_lt, lt_of_lt_of_le, lt_of_le_of_lt, div-lt_iff_lt-mul, le-div_iff_mul-le, mul-lt-mul_of_pos_right, arith, Bool, pow-add, pow_pos, pow_mono}
+use Rattle.std.proofs.Common.{le_trans, ◌≡◌, sym, ap, ◌∙◌, subst, ◌⊎◌, inl, inr, ℕ, zero, suc, ◌+◌, ◌-◌, ◌*◌, ◌/◌, ◌%◌, ◌^◌, ◌≤◌, ◌<◌, mul_assoc, mul-le-mul_right, mul_left_comm, mul-pos, lt_of_not-le, not-le_of_lt, lt_of_lt_of_le, lt_of_le_of_lt, div-lt_iff_lt-mul, le-div_iff_mul-le, mul-lt-mul_of_pos_right, arith, Bool, pow-add, pow_pos, pow_mono}
 use Rattle.std.proofs.Math.Nat.{pow-succ'}
 use Rattle.std.specs.Float.{binary32}
 use Rattle.std.specs.Float.Ieee.{size, units, round}
 use Rattle.std.specs.Float.Ieee.Digits.{size-lt, size-le, size_reaches}
-use Rattle.std.specs.Float.Ieee.Fits.{core, round_is}
-use Rattle.std.specs.Float.Ieee.Nearest.{closest, closest_same}
+use Rattle.std.specs.Float.Ieee.Fits.{core, nearest-le, round_is}
+use Rattle.std.specs.Float.Ieee.Nearest.{closest, closest_same, nearest-ge}
+use Prim.Native.Nat.{compare}
 use Rattle.std.specs.Float.Ieee.Scale.{round_same}
 use Rattle.fused.proofs.Jam.{jam_cut, jam_lt, jam_ge, cut_closest}
 use Rattle.fused.specs.Steps.{jam, Drops}
@@ -67,6 +68,20 @@ round_at s n g k p =
     (closest_same N (2 ^ (149 + g) * 2 ^ k) n (2 ^ (g + k)) (mul-pos D (pow_pos k)) (pow_pos (g + k))
     (mul_assoc n (2 ^ 149) (2 ^ (g + k)) ∙ ap (λ (x : ℕ). n * x) (pow_swap 149 (g + k) (149 + g) k (omega arith))))
 
+-- what is kept has 24 digits, or is the next number up
+module _ (n g k : ℕ) (p : Drops n g k) where
+  pub kept_le : closest n (2 ^ (g + k)) ≤ 2 ^ 24
+  kept_le =
+      let u = 2 ^ (g + k) in
+      le_trans (nearest-le (n / u) (compare (n % u * 2) u))
+      ((div-lt_iff_lt-mul (pow_pos (g + k))).1 (subst (λ (x : ℕ). n < x) (pow_eq (omega arith) ∙ pow-add 2 24 (g + k)) p.below))
+
+  pub kept_ge : 0 < k → 2 ^ 23 ≤ closest n (2 ^ (g + k))
+  kept_ge h =
+      let u = 2 ^ (g + k) in
+      le_trans ((le-div_iff_mul-le (pow_pos (g + k))).1 (subst (λ (x : ℕ). x ≤ n) (pow_eq (omega arith) ∙ pow-add 2 23 (g + k)) (p.above h)))
+      (nearest-ge (n / u) (compare (n % u * 2) u))
+
 -- ---- n rounded to odd at 2 ^ h, where that is at most a quarter of what `round` rounds to
 twice : (a h : ℕ) → 2 * 2 ^ a * 2 ^ h ≡ 2 ^ (suc a + h)
 twice a h = ap (λ (x : ℕ). x * 2 ^ h) (sym (pow-succ' 2 a)) ∙ sym (pow-add 2 (suc a) h)
@@ -106,7 +121,7 @@ module _ (s : Bool) (n h j k : ℕ) (p : Drops n 149 k) (e : 149 + k ≡ h + suc
 abbrev pub Fine : ℕ → ℕ → Type 0
 Fine n h = (jam n (2 ^ h) * 2 ^ h ≡ 2 * n) ⊎ ((h < 149) ⊎ (2 ^ (25 + h) ≤ n))
 
-pow_lt_back : (i p : ℕ) → 2 ^ i < 2 ^ p → i < p
+pub pow_lt_back : (i p : ℕ) → 2 ^ i < 2 ^ p → i < p
 pow_lt_back i p h = lt_of_not-le (λ (g : p ≤ i). not-le_of_lt h (pow_mono g))
 
 pub round-jam : (s : Bool) (n h : ℕ) → Fine n h → round binary32 s n (2 ^ 298) ≡ round binary32 s (jam n (2 ^ h) * 2 ^ h) (2 ^ 299)

@@ -1,6 +1,7 @@
 -- What the code's shifts, masks and tests compute, in the numbers of the specification.
-use Rattle.std.proofs.Common.{◌≡◌, refl, sym, ap, ◌∙◌, subst, inl, inr, ℕ, zero, suc, ◌+◌, ◌-◌, ◌*◌, ◌/◌, ◌%◌, ◌^◌, ◌≤◌, ◌<◌, mul_assoc, mul-le-mul_right, le_trans, le_of_eq, mul-one, zero-mul, lt_of_lt_of_le, lt_of_le_of_lt, eq-zero-or-pos, div-add-mod', mod-eq_of_lt, div-mul-le_self, one-mul, zero-add, add-zero, add-mul, suc-mul, lt_of_not-le, not-le_of_lt, mul-lt-mul_of_pos_right, lt_of_mul-lt-mul_right, add-one, arith, Bool, true, false, not, T, eqb, eqb→eq, T_not, bit_and, bit_or, pow-add, pow_pos, pow_mono, shl_lt}
+use Rattle.std.proofs.Common.{◌≡◌, refl, sym, ap, ◌∙◌, subst, inl, inr, ℕ, zero, suc, ◌+◌, ◌-◌, ◌*◌, ◌/◌, ◌%◌, ◌^◌, ◌≤◌, ◌<◌, mul_assoc, mul-le-mul_right, le_trans, le_of_eq, mul-one, zero-mul, lt_of_lt_of_le, lt_of_le_of_lt, eq-zero-or-pos, div-add-mod', mod-eq_of_lt, div-mul-le_self, one-mul, zero-add, add-zero, add-mul, suc-mul, mul-lt-mul_of_pos_right, lt_of_mul-lt-mul_right, add-one, arith, Bool, true, false, not, T, eqb, eqb→eq, T_not, bit_and, bit_or, pow-add, pow_pos, pow_mono, shl_lt}
 use Rattle.std.proofs.Math.Dec.{eqb-suc-zero}
+use Rattle.std.proofs.lemmas.Bool.{cases_lt}
 use Rattle.std.specs.Int.{from_bool}
 use Rattle.std.proofs.Math.Nat.{pow-succ'}
 use Rattle.std.proofs.Math.Pow.{shr_le}
@@ -9,8 +10,8 @@ use Rattle.std.specs.Float.Ieee.Fits.{eq→eqb}
 use Rattle.std.specs.Float.Ieee.Nearest.{closest, closest_same}
 use Prim.Native.Nat.{compare, Ordering}
 use lib.Bits.{and_mask, or_shifted, or_shifted_r}
-use Rattle.fused.proofs.Jam.{Cut, jam_cut, cut_jam, jam_exact, closest_at, compare_lt, compare_eq, compare_gt, le_or_lt}
-use Rattle.fused.proofs.Rounding.{pow_eq}
+use Rattle.fused.proofs.Jam.{Cut, jam_cut, cut_jam, jam_exact, closest_at, compare_lt, compare_eq, compare_gt}
+use Rattle.fused.proofs.Rounding.{pow_eq, pow_lt_back}
 use Rattle.fused.specs.Steps.{jam, Drops}
 
 -- ---- alignment
@@ -154,9 +155,6 @@ closest_exact : (x m : ℕ) → 0 < m → closest (x * m) m ≡ x
 closest_exact x m h =
     ap (λ (y : ℕ). closest y m) (sym (add-zero (x * m))) ∙ closest_at x m 0 h ∙ ap (λ (o : Ordering). nearest x o) (compare_lt (0 * 2) m h)
 
-pow_lt_back : (i p : ℕ) → 2 ^ i < 2 ^ p → i < p
-pow_lt_back i p h = lt_of_not-le (λ (g : p ≤ i). not-le_of_lt h (pow_mono g))
-
 times_ge : (w x : ℕ) → 0 < w → x ≤ w * x
 times_ge w x h = le_trans (le_of_eq (sym (one-mul x))) (mul-le-mul_right x h)
 
@@ -193,12 +191,12 @@ module _ (w h k : ℕ) (p : 0 < w) (l : w < 2 ^ 63) (H : h < 1000) (d : Drops (w
   ]
 
   pub magnitude_scaled : w * 2 ^ (h - (150 + k)) < 2 ^ 63
-  magnitude_scaled = elim (le_or_lt h (150 + k)) [
-    | inl g ↦ subst (λ (x : ℕ). x < 2 ^ 63) (sym (ap (λ (x : ℕ). w * 2 ^ x) (flat g) ∙ mul-one w)) l
-    | inr g ↦
+  magnitude_scaled = elim (cases_lt (150 + k) h) [
+    | inl g ↦
         (let b : w * 2 ^ (h - (150 + k)) < 2 ^ 24 = lt_of_mul-lt-mul_right (2 ^ (150 + k))
         (subst (λ (x : ℕ). x < 2 ^ 24 * 2 ^ (150 + k)) (ap (λ (x : ℕ). w * x) (pow_eq (split g) ∙ pow-add 2 (h - (150 + k)) (150 + k)) ∙ sym (mul_assoc w (2 ^ (h - (150 + k))) (2 ^ (150 + k))))
         (subst (λ (x : ℕ). w * 2 ^ h < x) (pow_eq (omega arith) ∙ pow-add 2 24 (150 + k)) d.below)) in omega arith)
+    | inr g ↦ subst (λ (x : ℕ). x < 2 ^ 63) (sym (ap (λ (x : ℕ). w * 2 ^ x) (flat g) ∙ mul-one w)) l
   ]
     where
       flat : h ≤ 150 + k → h - (150 + k) ≡ 0

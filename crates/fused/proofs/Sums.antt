@@ -1,13 +1,15 @@
 -- `sum` sees only the values of its two fractions; and two numbers that were rounded to odd at one place, of which one lost nothing, have the sum and the difference that the numbers have.
 use Rattle.std.proofs.Common.{◌≡◌, refl, sym, ap, ◌∙◌, subst, inl, inr, ℕ, ◌+◌, ◌-◌, ◌*◌, ◌^◌, ◌≤◌, ◌<◌, mul_comm, mul_assoc, mul-le-mul_right, add-mul, add_comm, lt_of_mul-lt-mul_right, mul-lt-mul_of_pos_right, le_of_lt, arith, Bool, true, false, not, ◌&&◌, cond, T, ltb, ltb→lt, lt→ltb, nltb→le, pow_pos}
+use Rattle.std.proofs.lemmas.Bool.{cases_lt}
 use Rattle.std.proofs.Math.Arith.{le→nltb}
 use Rattle.std.proofs.Math.Nat.{mul-sub}
+use Rattle.std.proofs.Math.Bool.{and-true}
 use Rattle.std.specs.Bool.{beq}
 use Rattle.std.specs.Float.{Format, binary32}
 use Rattle.std.specs.Float.Ieee.{round, sum}
 use Rattle.std.specs.Float.Ieee.Bits.{is_true, is_false}
 use Rattle.std.specs.Float.Ieee.Scale.{round_same}
-use Rattle.fused.proofs.Jam.{jam_exact, jam_add, jam_less, jam_from, jam_lt, jam_le, jam_gt, jam_ge, le_or_lt}
+use Rattle.fused.proofs.Jam.{jam_exact, jam_add, jam_less, jam_from, jam_lt, jam_le, jam_gt, jam_ge}
 use Rattle.fused.proofs.Rounding.{Fine, round-jam}
 use Rattle.fused.specs.Steps.{jam}
 
@@ -22,10 +24,6 @@ ltb_same a b c d p q = same_test (ltb a b) (ltb c d) (λ t. lt→ltb c d (p (ltb
 
 sub_mul : (a b c : ℕ) → (a - b) * c ≡ a * c - b * c
 sub_mul a b c = mul_comm (a - b) c ∙ mul-sub c a b ∙ ap (λ (x : ℕ). x - c * b) (mul_comm c a) ∙ ap (λ (x : ℕ). a * c - x) (mul_comm c b)
-
-and_true : (s : Bool) → (s && true) ≡ s
-and_true true = refl
-and_true false = refl
 
 and_false : (s : Bool) → (s && false) ≡ false
 and_false true = refl
@@ -126,7 +124,7 @@ sum-jam s t a b h g f =
     no x y p q = omega arith
 
     back : (a b x y : ℕ) → (b ≤ a → y ≤ x) → x < y → a < b
-    back a b x y p q = elim (le_or_lt b a) [ inl l ↦ absurd (no x y (p l) q) | inr l ↦ l ]
+    back a b x y p q = elim (cases_lt a b) [ inl l ↦ l | inr l ↦ absurd (no x y (p l) q) ]
 
 -- ---- where the rounding to odd does no harm
 -- both are multiples of 2 ^ h
@@ -183,7 +181,7 @@ module _ (f : Format) (s t : Bool) (x y d c : ℕ) (D : 0 < d) where
       ∙ unlike_sum e
 
   pub sum_more : beq s t ≡ false → y < x → round f s ((x - y) * d) c ≡ sum f s (x * d) t (y * d) c
-  sum_more e h = at_least e (le_of_lt h) s (ap (λ (b : Bool). s && b) (is_true (ltb (y * d) (x * d)) (lt→ltb (y * d) (x * d) (mul-lt-mul_of_pos_right h D))) ∙ and_true s)
+  sum_more e h = at_least e (le_of_lt h) s (ap (λ (b : Bool). s && b) (is_true (ltb (y * d) (x * d)) (lt→ltb (y * d) (x * d) (mul-lt-mul_of_pos_right h D))) ∙ and-true s)
 
   pub sum_none : beq s t ≡ false → y ≤ x → x ≤ y → round f false (0 * d) c ≡ sum f s (x * d) t (y * d) c
   sum_none e h k =

@@ -2,7 +2,8 @@ use Rattle.std.proofs.Common.{◌≡◌, sym, ap, ◌∙◌, subst, ℕ, ◌+◌
 use Rattle.std.specs.Float.{binary32}
 use Rattle.std.specs.Float.Ieee.{round}
 use Rattle.std.specs.Float.Ieee.Nearest.{closest}
-use Rattle.fused.proofs.Pack.{kept_le, pack, pack_zero}
+use Rattle.fused.proofs.Pack.{pack, pack_zero}
+use Rattle.fused.proofs.Rounding.{kept_le}
 use Rattle.fused.proofs.Steps.{k_lt, magnitude_scaled}
 use Rattle.fused.proofs.round.magnitude.Goals as goal
 
@@ -21,7 +22,7 @@ overflow_add-bits c =
     let h = c.args.h in
     let k = c.dropped-k.result in
     let l : k < 1000 = k_lt w h k (omega arith) c.requires.room c.requires.place c.dropped-k.ensures in
-    let q : c.scaled.result ≤ 2 ^ 24 = subst (λ (x : ℕ). x ≤ 2 ^ 24) (sym c.scaled.ensures) (kept_le (w * 2 ^ h) k c.dropped-k.ensures) in
+    let q : c.scaled.result ≤ 2 ^ 24 = subst (λ (x : ℕ). x ≤ 2 ^ 24) (sym c.scaled.ensures) (kept_le (w * 2 ^ h) 150 k c.dropped-k.ensures) in
     omega arith
 
 pub returns-clause-value : goal.returns-clause-value
