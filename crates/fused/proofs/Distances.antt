@@ -140,12 +140,9 @@ module _ (n k : ℕ) (p : Drops n 149 k) where
 
       most : k ≤ 253
       most = elim (cases_lt 253 k) [
-        | inl l ↦ absurd (no (pow_lt_back (23 + k + 149) 426 (lt_of_le_of_lt (p.above (omega arith)) lower)) l)
+        | inl l ↦ absurd (omega (arith, pow_lt_back (23 + k + 149) 426 (lt_of_le_of_lt (p.above (omega arith)) lower)))
         | inr g ↦ g
       ]
-        where
-          no : 23 + k + 149 < 426 → 253 < k → ⊥
-          no a b = omega arith
 
       largest : closest n (2 ^ 402) ≤ 2 ^ 24 - 1
       largest = closest_mono n (2 ^ 402) (2 ^ 426 - 2 ^ 401 - 1) (2 ^ 402) (pow_pos 402) (pow_pos 402) (mul-le-mul_right (2 ^ 402) (le_of_suc-le-suc h))

@@ -27,6 +27,7 @@ up-+ℤ (negsuc a) (pos b) = (let h = up_sub_ℕ b (suc a) in rw (one-mul, mul-o
 up-+ℤ (negsuc a) (negsuc b) = one-mul (2 ^ suc a * 2 ^ suc b) ∙ sym (pow-add 2 (suc a) (suc b)) ∙ pow_eq (omega arith) ∙ sym (one-mul (2 ^ suc (suc (a + b))))
 
 -- ---- the product
+-- of two fractions
 cross_product : (m n u v U p q D a b k l : ℕ) → U * (p * q) ≡ u * v * D → m * u * k ≡ a * p → n * v * l ≡ b * q → m * n * U * (k * l) * (p * q) ≡ a * b * D * (p * q)
 cross_product m n u v U p q D a b k l e f g =
     let x : m * n * U * (k * l) * (p * q) ≡ U * (p * q) * (m * n * (k * l)) = simp (mul_assoc, mul_comm, mul_left_comm) in
@@ -48,18 +49,19 @@ exact_product_value (fin s' m e) (fin t' n d) s t a b k l p q = (
 -- a number is zero where its significand is
 zero_value : (m a l : ℕ) (e : ℤ) → 0 < l → m * up e * l ≡ a * down e → a ≡ 0 → m ≡ 0
 zero_value zero a l e L h z = refl
-zero_value (suc m) a l e L h z = absurd (no (suc m * up e * l) (mul-pos (mul-pos (zero-lt-suc m) (up_pos e)) L) (h ∙ ap (λ (x : ℕ). x * down e) z ∙ zero-mul (down e)))
-  where
-    no : (n : ℕ) → 0 < n → n ≡ 0 → ⊥
-    no n p q = omega arith
+zero_value (suc m) a l e L h z =
+    let some = mul-pos (mul-pos (zero-lt-suc m) (up_pos e)) L in
+    let none = h ∙ ap (λ (x : ℕ). x * down e) z ∙ zero-mul (down e) in
+    absurd (omega (arith, some, none))
 
 some_value : (m a l : ℕ) (e : ℤ) → m * up e * l ≡ a * down e → 0 < a → eqb m 0 ≡ false
-some_value zero a l e h A = absurd (no (a * down e) (mul-pos A (down_pos e)) (sym h ∙ ap (λ (x : ℕ). x * l) (zero-mul (up e)) ∙ zero-mul l))
-  where
-    no : (n : ℕ) → 0 < n → n ≡ 0 → ⊥
-    no n p q = omega arith
+some_value zero a l e h A =
+    let some = mul-pos A (down_pos e) in
+    let none = sym h ∙ ap (λ (x : ℕ). x * l) (zero-mul (up e)) ∙ zero-mul l in
+    absurd (omega (arith, some, none))
 some_value (suc m) a l e h A = eqb-suc-zero m
 
+-- an infinity by a zero, by another number, and on the other side
 pub infinite_by_zero : (s : Bool) (y : Float) (t : Bool) (b l : ℕ) → 0 < l → HasValue y t b l → b ≡ 0 → exact_product (inf s) y ≡ nan
 infinite_by_zero s nan t b l L h z = absurd h
 infinite_by_zero s (inf t') t b l L h z = absurd h
@@ -76,10 +78,13 @@ unlike_comm true false = refl
 unlike_comm false true = refl
 unlike_comm false false = refl
 
-pub by_infinite : (s : Bool) (x : Float) → exact_product x (inf s) ≡ exact_product (inf s) x
-by_infinite s nan = refl
-by_infinite s (inf t) = ap inf (unlike_comm t s)
-by_infinite s (fin t n d) = ap (λ (v : Bool). cond (eqb n 0) nan (inf v)) (unlike_comm t s)
+pub by_infinite : (x y : Float) (s : Bool) → y ≡ inf s → exact_product x y ≡ exact_product y x
+by_infinite x y s e = ap (exact_product x) e ∙ turned x s ∙ ap (λ (z : Float). exact_product z x) (sym e)
+  where
+    turned : (x : Float) (s : Bool) → exact_product x (inf s) ≡ exact_product (inf s) x
+    turned nan s = refl
+    turned (inf t) s = ap inf (unlike_comm t s)
+    turned (fin t n d) s = ap (λ (v : Bool). cond (eqb n 0) nan (inf v)) (unlike_comm t s)
 
 -- ---- the size of a product
 four : (a b x y : ℕ) → a * b * (x * y) ≡ a * x * (b * y)
@@ -91,7 +96,7 @@ product_size a i b j = ap (λ (x : ℕ). a * b * x) (pow-add 2 i j) ∙ four a b
 pub zero_size : (a b x y : ℕ) → a * b ≡ 0 → a * b * 2 ^ 0 ≡ a * x * (b * y)
 zero_size a b x y h = ap (λ (z : ℕ). z * 2 ^ 0) h ∙ sym (sym (four a b x y) ∙ ap (λ (z : ℕ). z * (x * y)) h ∙ zero-mul (x * y))
 
--- ---- the sum
+-- ---- the sum of a product over l * l and a summand over l
 along : (n v q c l p : ℕ) → n * v * l ≡ c * q → n * v * p * (l * l) ≡ c * l * (p * q)
 along n v q c l p h =
     let x : n * v * p * (l * l) ≡ n * v * l * (p * l) = simp (mul_assoc, mul_comm, mul_left_comm) in
@@ -116,6 +121,7 @@ add_values f (fin s' m e) (fin u' n d) s u a c l L p q =
     ∙ ap (λ (v : Bool). sum f v a u' (c * l) (l * l)) p.0
     ∙ ap (λ (v : Bool). sum f s a v (c * l) (l * l)) q.0
 
+-- with an infinity, and with a NaN
 pub infinite_plus : (f : Format) (s : Bool) (z : Float) (u : Bool) (c l : ℕ) → HasValue z u c l → add f (inf s) z ≡ inf s
 unfolding add
 infinite_plus f s nan u c l h = absurd h
@@ -133,7 +139,3 @@ unfolding add
 plus_nan f nan = refl
 plus_nan f (inf s) = refl
 plus_nan f (fin s m e) = refl
-
-pub nan_plus : (f : Format) (z : Float) → add f nan z ≡ nan
-unfolding add
-nan_plus f z = refl

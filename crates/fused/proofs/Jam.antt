@@ -16,18 +16,12 @@ pub record Cut (n d w a t : ℕ) : Type 0 where
   pub none : t ≡ 0 → w ≡ 2 * a
   pub some : 0 < t → w ≡ 2 * a + 1
 
-no_pos : 0 < 0 → ⊥
-no_pos h = omega arith
-
-no_zero : (r : ℕ) → suc r ≡ 0 → ⊥
-no_zero r h = omega arith
-
 bit_none : (r : ℕ) → r ≡ 0 → sticky r ≡ 0
 bit_none zero e = refl
-bit_none (suc r) e = absurd (no_zero r e)
+bit_none (suc r) e = absurd (omega arith)
 
 bit_some : (r : ℕ) → 0 < r → sticky r ≡ 1
-bit_some zero h = absurd (no_pos h)
+bit_some zero h = absurd (omega arith)
 bit_some (suc r) h = ap (λ (b : Bool). cond b 0 1) (eqb-suc-zero r)
 
 pub jam_cut : (n d : ℕ) → 0 < d → Cut n d (jam n d) (n / d) (n % d)
@@ -193,35 +187,29 @@ pub jam_gt : (x n d : ℕ) → 0 < d → x * d < n → 2 * x < jam n d
 jam_gt x n d D = cut_gt x n d (jam n d) (n / d) (n % d) (jam_cut n d D)
 
 -- ---- what `compare` says
-pub compare_lt : (a b : ℕ) → a < b → compare a b ≡ Prim.Native.Nat.Ordering.lt
+pub compare_lt : (a b : ℕ) → a < b → compare a b ≡ Ordering.lt
 compare_lt a b h = go (compare a b) (nleb→lt a b) (λ (e : T (eqb a b)). lt_irrefl b (subst (λ (x : ℕ). x < b) (eqb→eq a b e) h))
   where
-    no : b < a → a < b → ⊥
-    no k l = omega arith
+    go : (o : Ordering) → (T (not (is_le o)) → b < a) → (T (compare_is_eq o) → ⊥) → o ≡ Ordering.lt
+    go Ordering.lt p q = refl
+    go Ordering.eq p q = absurd (q tt)
+    go Ordering.gt p q = absurd (omega (arith, p tt))
 
-    go : (o : Ordering) → (T (not (is_le o)) → b < a) → (T (compare_is_eq o) → ⊥) → o ≡ Prim.Native.Nat.Ordering.lt
-    go Prim.Native.Nat.Ordering.lt p q = refl
-    go Prim.Native.Nat.Ordering.eq p q = absurd (q tt)
-    go Prim.Native.Nat.Ordering.gt p q = absurd (no (p tt) h)
-
-pub compare_eq : (a b : ℕ) → a ≡ b → compare a b ≡ Prim.Native.Nat.Ordering.eq
+pub compare_eq : (a b : ℕ) → a ≡ b → compare a b ≡ Ordering.eq
 compare_eq a b h = go (compare a b) (subst (λ (x : ℕ). T (eqb a x)) h (eqb_refl a))
   where
-    go : (o : Ordering) → T (compare_is_eq o) → o ≡ Prim.Native.Nat.Ordering.eq
-    go Prim.Native.Nat.Ordering.lt q = absurd q
-    go Prim.Native.Nat.Ordering.eq q = refl
-    go Prim.Native.Nat.Ordering.gt q = absurd q
+    go : (o : Ordering) → T (compare_is_eq o) → o ≡ Ordering.eq
+    go Ordering.lt q = absurd q
+    go Ordering.eq q = refl
+    go Ordering.gt q = absurd q
 
-pub compare_gt : (a b : ℕ) → b < a → compare a b ≡ Prim.Native.Nat.Ordering.gt
+pub compare_gt : (a b : ℕ) → b < a → compare a b ≡ Ordering.gt
 compare_gt a b h = go (compare a b) (leb→le a b)
   where
-    no : a ≤ b → b < a → ⊥
-    no k l = omega arith
-
-    go : (o : Ordering) → (T (is_le o) → a ≤ b) → o ≡ Prim.Native.Nat.Ordering.gt
-    go Prim.Native.Nat.Ordering.lt p = absurd (no (p tt) h)
-    go Prim.Native.Nat.Ordering.eq p = absurd (no (p tt) h)
-    go Prim.Native.Nat.Ordering.gt p = refl
+    go : (o : Ordering) → (T (is_le o) → a ≤ b) → o ≡ Ordering.gt
+    go Ordering.lt p = absurd (omega (arith, p tt))
+    go Ordering.eq p = absurd (omega (arith, p tt))
+    go Ordering.gt p = refl
 
 -- ---- a rounding at a multiple of 2 * d
 

@@ -6,7 +6,7 @@ pub mod Cuts
 pub mod Steps
 pub mod Patterns
 pub mod Exact
-pub mod Sum
+pub mod Specials
 pub mod Controls
 pub mod Distances
 pub mod Signs

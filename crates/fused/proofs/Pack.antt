@@ -52,11 +52,8 @@ to_bits-units s q k h r l = to_bits_is (units binary32 s q k) s (q * 2 ^ k) (uni
 pub under_top : (q k : ℕ) → q ≤ 2 ^ 24 → (0 < k → 2 ^ 23 ≤ q) → k * 2 ^ 23 + q < 255 * 2 ^ 23 → q * 2 ^ k < 2 ^ 277
 under_top q k h r m = go (eq-or-lt_of_le k_le)
   where
-    no : 254 ≤ k → 2 ^ 23 ≤ q → ⊥
-    no a b = omega arith
-
     k_le : k ≤ 253
-    k_le = elim (cases_lt 253 k) [ inl b ↦ absurd (no b (r (omega arith))) | inr a ↦ a ]
+    k_le = elim (cases_lt 253 k) [ inl b ↦ absurd (omega (arith, r (omega arith))) | inr a ↦ a ]
 
     go : (k ≡ 253) ⊎ (k < 253) → q * 2 ^ k < 2 ^ 277
     go (inl e) = subst (λ (x : ℕ). q * 2 ^ x < 2 ^ 277) (sym e) (shl_lt 24 253 (omega arith))

@@ -10,12 +10,12 @@ use Rattle.std.specs.Float.Ieee.Exact.{HasValue, units_val}
 use Rattle.std.specs.Float.Ieee.Fits.{add-fits}
 use Rattle.std.specs.Float.Ieee.Nearest.{closest}
 use Rattle.fused.specs.Fused.{exact_product, fused_of}
-use Rattle.fused.specs.Steps.{fraction, shift, Drops}
+use Rattle.fused.specs.Steps.{significand_of, place_of, Drops}
 use Rattle.fused.specs.Words.{IsValue, signed, units_of, exact_of, error_of, IsEven, overflow}
 use Rattle.fused.proofs.Distances.{gap, grid_nearest, grid_tie, beyond, within}
 use Rattle.fused.proofs.Exact.{exact_product_value, add_values}
 use Rattle.fused.proofs.Pack.{to_bits-units, under_top, over_top, units_over}
-use Rattle.fused.proofs.Patterns.{finite_is, infinite_is, fraction_small}
+use Rattle.fused.proofs.Patterns.{finite_is, infinite_is, significand_of-lt}
 use Rattle.fused.proofs.Rounding.{pow_eq, places, round_at, kept_le, kept_ge}
 use Rattle.fused.proofs.Signs.{signed-mul, signed_times, total, abs_signed, apart_like, apart_unlike, units_is}
 
@@ -44,9 +44,9 @@ taken x v =
     let finite = passes _ v.finite in
     record {
       negative = leb (2 ^ 31) b;
-      digits = fraction b;
-      place = shift b;
-      short = fraction_small b;
+      digits = significand_of b;
+      place = place_of b;
+      short = significand_of-lt b;
       value = finite_is x fit (λ e. not_infinite x (leb (2 ^ 31) b) finite (infinite_is x fit (not_nan x finite) e));
     }
 
@@ -109,10 +109,7 @@ like_or_unlike false true = inr refl
 like_or_unlike false false = inl refl
 
 below_zero : (s : Bool) (n : ℕ) → 0 < n → int_lt (signed s n) (pos 0) ≡ s
-below_zero s zero h = absurd (no h)
-  where
-    no : 0 < 0 → ⊥
-    no h = omega arith
+below_zero s zero h = absurd (omega arith)
 below_zero true (suc n) h = refl
 below_zero false (suc n) h = is_false (ltb (suc n) 0) (le→nltb (suc n) 0 (omega arith))
 

@@ -1,5 +1,5 @@
 -- What the code's shifts, masks and tests compute, in the numbers of the specification.
-use Rattle.std.proofs.Common.{◌≡◌, refl, sym, ap, ◌∙◌, subst, inl, inr, ℕ, zero, suc, ◌+◌, ◌-◌, ◌*◌, ◌/◌, ◌%◌, ◌^◌, ◌≤◌, ◌<◌, mul_assoc, mul-le-mul_right, le_trans, le_of_eq, mul-one, zero-mul, lt_of_lt_of_le, lt_of_le_of_lt, eq-zero-or-pos, div-add-mod', mod-eq_of_lt, div-mul-le_self, one-mul, zero-add, add-zero, add-mul, suc-mul, mul-lt-mul_of_pos_right, lt_of_mul-lt-mul_right, add-one, arith, Bool, true, false, not, T, eqb, eqb→eq, T_not, bit_and, bit_or, pow-add, pow_pos, pow_mono, shl_lt}
+use Rattle.std.proofs.Common.{◌≡◌, refl, sym, ap, ◌∙◌, subst, inl, inr, ℕ, zero, suc, ◌+◌, ◌-◌, ◌*◌, ◌/◌, ◌%◌, ◌^◌, ◌≤◌, ◌<◌, mul_assoc, mul-le-mul_right, le_trans, le_of_eq, mul-one, zero-mul, lt_of_lt_of_le, lt_of_le_of_lt, eq-zero-or-pos, div-add-mod', mod-eq_of_lt, div-mul-le_self, one-mul, zero-add, add-zero, add-mul, suc-mul, mul-lt-mul_of_pos_right, lt_of_mul-lt-mul_right, arith, Bool, true, false, not, T, eqb, eqb→eq, T_not, bit_and, bit_or, pow-add, pow_pos, pow_mono, shl_lt}
 use Rattle.std.proofs.Math.Dec.{eqb-suc-zero}
 use Rattle.std.proofs.lemmas.Bool.{cases_lt}
 use Rattle.std.specs.Int.{from_bool}
@@ -9,12 +9,14 @@ use Rattle.std.specs.Float.Ieee.{nearest}
 use Rattle.std.specs.Float.Ieee.Fits.{eq→eqb}
 use Rattle.std.specs.Float.Ieee.Nearest.{closest, closest_same}
 use Prim.Native.Nat.{compare, Ordering}
-use lib.Bits.{and_mask, or_shifted, or_shifted_r}
-use Rattle.fused.proofs.Jam.{Cut, jam_cut, cut_jam, jam_exact, closest_at, compare_lt, compare_eq, compare_gt}
+use Rattle.std.proofs.lemmas.Nat.{and_mask, or_shifted}
+use Rattle.std.specs.Int.Bits.{or_shifted_r}
+use Rattle.fused.proofs.Jam.{Cut, jam_cut, cut_jam, jam_exact, closest_at, compare_lt, compare_eq}
 use Rattle.fused.proofs.Rounding.{pow_eq, pow_lt_back}
 use Rattle.fused.specs.Steps.{jam, Drops}
 
--- ---- alignment
+-- ---- a cut of m * 2 ^ i at 2 ^ h
+-- nothing is cut off
 pub cut_up : (m i h : ℕ) → h ≤ i → m * 2 ^ (i - h) < 2 ^ 61 → m * 2 ^ (i - h) % 2 ^ 64 * 2 % 2 ^ 64 ≡ jam (m * 2 ^ i) (2 ^ h)
 cut_up m i h l u =
     let x = m * 2 ^ (i - h) in
@@ -52,6 +54,7 @@ unshifted m i h b l u = subst (λ (x : ℕ). x < b) (ap (λ (x : ℕ). m * 2 ^ x
     z : i - h ≡ 0
     z = omega arith
 
+-- all of m is cut off
 jam_small : (m d : ℕ) → m < 2 ^ d → (m ≡ 0 → 0 ≡ jam m (2 ^ d)) × (0 < m → 1 ≡ jam m (2 ^ d))
 jam_small m d l = (
   λ e. cut_jam m (2 ^ d) 0 0 m (record { whole = z; rest = l; none = λ _. refl; some = λ p. omega arith }),
@@ -61,6 +64,7 @@ jam_small m d l = (
     z : 0 * 2 ^ d + m ≡ m
     z = (let y = zero-mul (2 ^ d) in omega arith)
 
+-- all is cut off
 pub cut_far : (m i h : ℕ) → i < h → 61 < h - i → m * 2 ^ (i - h) < 2 ^ 61 → from_bool (not (eqb m 0)) ≡ jam (m * 2 ^ i) (2 ^ h)
 cut_far m i h l g u = go m small ∙ jam_shift m i h (omega arith)
   where
@@ -75,6 +79,7 @@ cut_far m i h l g u = go m small ∙ jam_shift m i h (omega arith)
 back_is : (m d : ℕ) → m < 2 ^ 64 → m / 2 ^ d * 2 ^ d % 2 ^ 64 ≡ m / 2 ^ d * 2 ^ d
 back_is m d l = mod-eq_of_lt (lt_of_le_of_lt (div-mul-le_self m (2 ^ d)) l)
 
+-- some of it is
 pub cut_near : (m i h : ℕ) → i < h → m * 2 ^ (i - h) < 2 ^ 61
     → bit_or (m / 2 ^ (h - i) * 2 % 2 ^ 64) (from_bool (not (eqb (m / 2 ^ (h - i) * 2 ^ (h - i) % 2 ^ 64) m))) ≡ jam (m * 2 ^ i) (2 ^ h)
 cut_near m i h l u = go (eqb (q * 2 ^ d % 2 ^ 64) m) (eqb→eq (q * 2 ^ d % 2 ^ 64) m) (λ n e. T_not (eqb (q * 2 ^ d % 2 ^ 64) m) n (eq→eqb e)) ∙ jam_shift m i h (omega arith)
@@ -115,6 +120,7 @@ cut_near m i h l u = go (eqb (q * 2 ^ d % 2 ^ 64) m) (eqb→eq (q * 2 ^ d % 2 ^ 
         ap (λ (x : ℕ). bit_or x 1) twice ∙ or_shifted q 1 1 (omega arith) ∙ (let z = j in omega arith)
 
 -- ---- the nearest whole number
+-- a w below half of 2 ^ t
 pub nearest_none : (w t : ℕ) → w < 2 ^ 63 → 63 < t → 0 ≡ closest w (2 ^ t)
 nearest_none w t l g =
     let b : 2 ^ 64 ≤ 2 ^ t = pow_mono {i = 64} {j = t} g in
@@ -123,6 +129,7 @@ nearest_none w t l g =
     ∙ ap (λ (o : Ordering). nearest 0 o) (compare_lt (w * 2) (2 ^ t) (omega arith)))
 
 module _ (w t : ℕ) (l : w < 2 ^ 63) (p : 0 < t) (g : t ≤ 63) where
+  -- the code's rest, its half, and what it answers where they are the same
   rest_is : w - w / 2 ^ t * 2 ^ t % 2 ^ 64 ≡ w % 2 ^ t
   rest_is =
       let b : w / 2 ^ t * 2 ^ t % 2 ^ 64 ≡ w / 2 ^ t * 2 ^ t = back_is w t (omega arith) in
@@ -136,12 +143,6 @@ module _ (w t : ℕ) (l : w < 2 ^ 63) (p : 0 < t) (g : t ≤ 63) where
 
   by : (o : Ordering) → compare (w % 2 ^ t * 2) (2 ^ t) ≡ o → nearest (w / 2 ^ t) o ≡ closest w (2 ^ t)
   by o e = ap (λ (x : Ordering). nearest (w / 2 ^ t) x) (sym e)
-
-  pub nearest_down : w - w / 2 ^ t * 2 ^ t % 2 ^ 64 < 1 * 2 ^ (t - 1) % 2 ^ 64 → w / 2 ^ t ≡ closest w (2 ^ t)
-  nearest_down h = (let r = rest_is in let f = half_is in by Ordering.lt (compare_lt (w % 2 ^ t * 2) (2 ^ t) (omega arith)))
-
-  pub nearest_up : 1 * 2 ^ (t - 1) % 2 ^ 64 < w - w / 2 ^ t * 2 ^ t % 2 ^ 64 → w / 2 ^ t + 1 ≡ closest w (2 ^ t)
-  nearest_up h = (let r = rest_is in let f = half_is in add-one (w / 2 ^ t) ∙ by Ordering.gt (compare_gt (w % 2 ^ t * 2) (2 ^ t) (omega arith)))
 
   pub nearest_tie : 1 * 2 ^ (t - 1) % 2 ^ 64 ≤ w - w / 2 ^ t * 2 ^ t % 2 ^ 64 → w - w / 2 ^ t * 2 ^ t % 2 ^ 64 ≤ 1 * 2 ^ (t - 1) % 2 ^ 64
       → w / 2 ^ t + bit_and (w / 2 ^ t) 1 ≡ closest w (2 ^ t)
@@ -158,12 +159,11 @@ closest_exact x m h =
 times_ge : (w x : ℕ) → 0 < w → x ≤ w * x
 times_ge w x h = le_trans (le_of_eq (sym (one-mul x))) (mul-le-mul_right x h)
 
+-- the shift is less than a word
 pub scaled_shift : (w h g : ℕ) → 0 < w → w * 2 ^ (h - g) < 2 ^ 63 → h - g < 64
 scaled_shift w h g p l = (let k = pow_lt_back (h - g) 63 (lt_of_le_of_lt (times_ge w (2 ^ (h - g)) p) l) in omega arith)
 
-pub scaled_small : (w h g : ℕ) → h < g → w * 2 ^ (h - g) < 2 ^ 63 → w < 2 ^ 63
-scaled_small w h g l u = unshifted w h g (2 ^ 63) l u
-
+-- shifted up, and down
 pub scaled_up : (w h g : ℕ) → g ≤ h → w * 2 ^ (h - g) < 2 ^ 63 → w * 2 ^ (h - g) % 2 ^ 64 ≡ closest (w * 2 ^ h) (2 ^ g)
 scaled_up w h g l u =
     let x = w * 2 ^ (h - g) in

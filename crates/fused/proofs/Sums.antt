@@ -120,11 +120,8 @@ sum-jam s t a b h g f =
     (λ l u. round-jam u (b - a) h (f.less l) ∙ ap (λ (z : ℕ). round binary32 u z (2 ^ 299)) (ap (λ (z : ℕ). z * d) (sym (g.less (le_of_lt l))) ∙ sub_mul y x d))
     (λ l u. round-jam u (a - b) h (f.more l) ∙ ap (λ (z : ℕ). round binary32 u z (2 ^ 299)) (ap (λ (z : ℕ). z * d) (sym (g.more l)) ∙ sub_mul x y d))
   where
-    no : (x y : ℕ) → y ≤ x → x < y → ⊥
-    no x y p q = omega arith
-
     back : (a b x y : ℕ) → (b ≤ a → y ≤ x) → x < y → a < b
-    back a b x y p q = elim (cases_lt a b) [ inl l ↦ l | inr l ↦ absurd (no x y (p l) q) ]
+    back a b x y p q = elim (cases_lt a b) [ inl l ↦ l | inr l ↦ absurd (omega (arith, p l)) ]
 
 -- ---- where the rounding to odd does no harm
 -- both are multiples of 2 ^ h
@@ -144,16 +141,10 @@ fines_low a b h l = record { plus = inr (inl l); less = λ _. inr (inl l); more 
 
 -- the one is far above 2 ^ h, and the other is less than half of it
 pub fines_first : (a b h z : ℕ) → 2 ^ (25 + h) ≤ z → 2 * z ≤ a → b < z → Fines a b h
-fines_first a b h z p q r = record { plus = inr (inr (omega arith)); less = λ l. absurd (no l); more = λ l. inr (inr (omega arith)) }
-  where
-    no : a < b → ⊥
-    no l = omega arith
+fines_first a b h z p q r = record { plus = inr (inr (omega arith)); less = λ l. absurd (omega arith); more = λ l. inr (inr (omega arith)) }
 
 pub fines_second : (a b h z : ℕ) → 2 ^ (25 + h) ≤ z → 2 * z ≤ b → a < z → Fines a b h
-fines_second a b h z p q r = record { plus = inr (inr (omega arith)); less = λ l. inr (inr (omega arith)); more = λ l. absurd (no l) }
-  where
-    no : b ≤ a → ⊥
-    no l = omega arith
+fines_second a b h z p q r = record { plus = inr (inr (omega arith)); less = λ l. inr (inr (omega arith)); more = λ l. absurd (omega arith) }
 
 -- ---- `sum` by its cases, of multiples of one number
 module _ (f : Format) (s t : Bool) (x y d c : ℕ) (D : 0 < d) where

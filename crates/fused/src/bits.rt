@@ -1,7 +1,7 @@
 // An f32 taken apart.
 ghost use Rattle.std.specs.Prelude.{◌≡◌, ◌+◌, ◌-◌, ◌*◌, ◌/◌, ◌%◌, ◌^◌, ◌<◌, ◌≤◌, Float};
 ghost use Rattle.std.specs.Float.{inf};
-ghost use Rattle.fused.specs.Steps.{field, fraction, shift, StandsFor, IsShortValue};
+ghost use Rattle.fused.specs.Steps.{field_of, significand_of, place_of, StandsFor, IsShortValue};
 
 /// The smallest value of the format is 2^-149: the lowest place of a significand's last digit.
 pub const LOWEST: u64 = 149;
@@ -37,14 +37,14 @@ pub enum Value {
 
 // The exponent's field of a pattern.
 fn field(bits: u32) -> u64
-    ensures { result ≡ field bits }
+    ensures { result ≡ field_of bits }
 {
     u64::from((bits >> 23) & 0xff)
 }
 
 // The digits of a finite pattern, with the leading one.
 fn significand(bits: u32) -> u64
-    ensures value { result ≡ fraction bits }
+    ensures value { result ≡ significand_of bits }
     ensures below { result < 2 ^ DIGITS }
 {
     let fraction = u64::from(bits & FRACTION);
@@ -57,7 +57,7 @@ fn significand(bits: u32) -> u64
 
 // How many places above the lowest the last digit of a finite pattern stands: a field of 0 counts as one of 1.
 fn place(bits: u32) -> u64
-    ensures value { result ≡ shift bits }
+    ensures value { result ≡ place_of bits }
     ensures below { result < 255 }
 {
     field(bits).saturating_sub(1)

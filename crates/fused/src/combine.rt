@@ -1,9 +1,7 @@
 // The exact product and the exact sum.
-ghost use Rattle.std.specs.Prelude.{◌≡◌, ◌+◌, ◌-◌, ◌*◌, ◌^◌, ◌<◌, ◌≤◌, ℕ, Float};
-ghost use Rattle.std.specs.Float.{Format, inf, binary32};
-ghost use Rattle.std.specs.Float.Ieee as ieee;
-ghost use Rattle.fused.specs.Fused.{exact_product};
-ghost use Rattle.fused.specs.Steps.{size_of, StandsFor, IsShort, IsShortValue};
+ghost use Rattle.std.specs.Prelude.{◌≡◌, ◌+◌, ◌*◌, ◌^◌, ◌<◌, ◌≤◌};
+ghost use Rattle.std.specs.Float.Ieee.{unlike};
+ghost use Rattle.fused.specs.Steps.{size_of, sum_of, AddsUp, IsProduct, IsShort, IsShortValue, IsSum};
 
 use crate::align::{align, level};
 use crate::bits::{DIGITS, Finite, LOWEST, Value, infinity};
@@ -13,7 +11,7 @@ use crate::round::nearest_float;
 pub fn product(a: Value, b: Value) -> Value
     requires first { IsShortValue LOWEST DIGITS a }
     requires second { IsShortValue LOWEST DIGITS b }
-    ensures value { (x y : Float) → StandsFor LOWEST x a → StandsFor LOWEST y b → StandsFor (2 * LOWEST) (exact_product x y) result }
+    ensures value { IsProduct a b result }
     ensures short { IsShortValue (2 * LOWEST) (2 * DIGITS) result }
 {
     match (a, b) {
@@ -27,7 +25,7 @@ pub fn product(a: Value, b: Value) -> Value
 
 // The product of an infinity and a number; that of an infinity and a zero is no number.
 fn infinite_product(negative: bool, v: Finite) -> Value
-    ensures value { (y : Float) → StandsFor LOWEST y (Value.Number v) → StandsFor (2 * LOWEST) (exact_product (inf negative) y) result }
+    ensures value { IsProduct (Value.Infinite negative) (Value.Number v) result }
     ensures short { IsShortValue (2 * LOWEST) (2 * DIGITS) result }
 {
     if v.significand == 0 {
@@ -40,7 +38,7 @@ fn infinite_product(negative: bool, v: Finite) -> Value
 fn finite_product(v: Finite, w: Finite) -> Finite
     requires first { IsShort LOWEST DIGITS v }
     requires second { IsShort LOWEST DIGITS w }
-    ensures sign { result.negative ≡ ieee.unlike v.negative w.negative }
+    ensures sign { result.negative ≡ unlike v.negative w.negative }
     ensures value { size_of result ≡ size_of v * size_of w }
     ensures short { IsShort (2 * LOWEST) (2 * DIGITS) result }
 {
@@ -57,11 +55,11 @@ fn finite_product(v: Finite, w: Finite) -> Finite
 }
 
 /// The sum of an exact product and a value, rounded once.
-#[tactic(auto, using(crate::proofs::Sum::nan_first, crate::proofs::Sum::nan_second))]
+#[tactic(auto, using(crate::proofs::Specials::nan_first, crate::proofs::Specials::nan_second))]
 pub fn sum(product: Value, c: Value) -> f32
     requires product { IsShortValue (2 * LOWEST) (2 * DIGITS) product }
     requires summand { IsShortValue LOWEST DIGITS c }
-    ensures { (x z : Float) → StandsFor (2 * LOWEST) x product → StandsFor LOWEST z c → result ≡ ieee.add binary32 x z }
+    ensures { IsSum product c result }
 {
     match (product, c) {
         (Value::Nan, _) | (_, Value::Nan) => f32::NAN,
@@ -76,7 +74,7 @@ pub fn sum(product: Value, c: Value) -> f32
 fn finite_sum(product: Finite, c: Finite) -> f32
     requires product { IsShort (2 * LOWEST) (2 * DIGITS) product }
     requires summand { IsShort LOWEST DIGITS c }
-    ensures { result ≡ ieee.sum binary32 product.negative (size_of product) c.negative (size_of c * 2 ^ LOWEST) (2 ^ (2 * LOWEST)) }
+    ensures { result ≡ sum_of product c }
 {
     let summand = Finite {
         place: c.place + LOWEST,
@@ -91,7 +89,7 @@ fn add(x: Finite, y: Finite) -> Finite
     requires place { x.place ≡ y.place }
     requires first { x.significand < 2 ^ 62 }
     requires second { y.significand < 2 ^ 62 }
-    ensures value { (f : Format) (d : ℕ) → ieee.round f result.negative (size_of result) d ≡ ieee.sum f x.negative (size_of x) y.negative (size_of y) d }
+    ensures value { AddsUp x y result }
     ensures place { result.place ≡ x.place }
     ensures below { result.significand < 2 ^ 63 }
 {

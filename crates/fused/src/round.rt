@@ -1,9 +1,7 @@
 // A number rounded to an f32.
-ghost use Rattle.std.specs.Prelude.{◌≡◌, ◌+◌, ◌-◌, ◌*◌, ◌^◌, ◌<◌, ◌≤◌, Bool, if◌then◌else◌};
-ghost use Rattle.std.specs.Float.{binary32};
-ghost use Rattle.std.specs.Float.Ieee.{round, of_bits};
+ghost use Rattle.std.specs.Prelude.{◌≡◌, ◌+◌, ◌-◌, ◌*◌, ◌^◌, ◌<◌, ◌≤◌};
 ghost use Rattle.std.specs.Float.Ieee.Nearest.{closest};
-ghost use Rattle.fused.specs.Steps.{size_of, Drops};
+ghost use Rattle.fused.specs.Steps.{rounded_of, IsMagnitude, Drops};
 
 use crate::bits::{DIGITS, Finite, LOWEST, SIGN};
 
@@ -14,7 +12,7 @@ const INFINITY: u64 = 0x7f80_0000;
 pub fn nearest_float(v: Finite) -> f32
     requires room { v.significand < 2 ^ 63 }
     requires place { v.place < 1000 }
-    ensures { result ≡ round binary32 v.negative (size_of v) (2 ^ (2 * LOWEST + 1)) }
+    ensures { result ≡ rounded_of (2 * LOWEST + 1) v }
 {
     let bits = magnitude(v.significand, v.place) as u32;
     if v.negative {
@@ -29,7 +27,7 @@ fn magnitude(w: u64, h: u64) -> u64
     requires room { w < 2 ^ 63 }
     requires place { h < 1000 }
     ensures below { result ≤ INFINITY }
-    ensures value { (s : Bool) → of_bits binary32 ((if s then 2 ^ 31 else 0) + result) ≡ round binary32 s (w * 2 ^ h) (2 ^ (2 * LOWEST + 1)) }
+    ensures value { IsMagnitude (w * 2 ^ h) result }
 {
     if w == 0 {
         return 0;

@@ -1,6 +1,7 @@
-use Rattle.std.proofs.Common.{◌^◌}
-use Rattle.fused.proofs.Exact.{exact_product_value}
-use Rattle.fused.specs.Steps.{size_of}
+use Rattle.std.proofs.Common.{◌≡◌, sym, subst, ◌^◌, Float}
+use Rattle.std.specs.Float.{inf}
+use Rattle.fused.proofs.Exact.{exact_product_value, by_infinite}
+use Rattle.fused.specs.Steps.{size_of, StandsFor}
 use Rattle.fused.proofs.combine.product.Goals as goal
 
 pub returns-in-Number-Number-clause-value : goal.returns-in-Number-Number-clause-value
@@ -9,3 +10,11 @@ returns-in-Number-Number-clause-value c =
     let w = c.in-Number-Number.w in
     let r = c.finite_product.ensures in
     λ x y p q. rw (r.sign, r.value) (exact_product_value x y v.negative w.negative (size_of v) (size_of w) (2 ^ 149) (2 ^ 149) (rw c.in-Number-Number.is-0 at p) (rw c.in-Number-Number.is-1 at q))
+
+pub returns-in-Number-Infinite-clause-value : goal.returns-in-Number-Infinite-clause-value
+returns-in-Number-Infinite-clause-value c =
+    let n = c.in-Number-Infinite in
+    let r = c.infinite_product-in-Number-Infinite in
+    λ x y p q.
+    let i : y ≡ inf n.s = rw n.is-1 at q in
+    subst (λ (z : Float). StandsFor 298 z r.result) (sym (by_infinite x y n.s i)) (r.ensures.value y x i (rw n.is-0 at p))

@@ -1,5 +1,5 @@
 use Rattle.std.proofs.Common.{◌∙◌}
-use Rattle.fused.proofs.Sum.{infinite_number, number_infinite, like_infinities, unlike_infinities, numbers}
+use Rattle.fused.proofs.Specials.{infinite_number, number_infinite, like_infinities, unlike_infinities, numbers}
 use Rattle.fused.proofs.combine.sum.Goals as goal
 
 pub returns-then-s-t : goal.returns-then-s-t
