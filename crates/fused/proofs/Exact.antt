@@ -1,7 +1,7 @@
 -- The exact product and the sum of a product and a summand, by what the numbers stand for.
 use Rattle.std.proofs.Common.{◌≡◌, refl, sym, ap, ◌∙◌, ℕ, zero, suc, ◌+◌, ◌-◌, ◌*◌, ◌^◌, ◌<◌, ◌≤◌, ℤ, pos, negsuc, ◌+ℤ◌, Bool, true, false, not, cond, T, eqb, ltb, mul_assoc, mul_comm, mul_left_comm, mul-pos, mul-one, one-mul, zero-mul, zero-lt-suc, ltb→lt, nltb→le, pow-add, arith, Float}
 use Rattle.std.proofs.Math.Dec.{eqb-suc-zero}
-use Rattle.std.proofs.Math.IntN.{sub_ℕ}
+use Rattle.std.proofs.Math.IntN.{sub_ℕ, +ℤ_comm}
 use Rattle.std.proofs.Math.Nat.{eq_of_mul-eq-mul_right}
 use Rattle.std.specs.Float.{nan, inf, fin, Format}
 use Rattle.std.specs.Float.Ieee.{unlike, up, down, sum, add}
@@ -61,7 +61,7 @@ some_value zero a l e h A =
     absurd (omega (arith, some, none))
 some_value (suc m) a l e h A = eqb-suc-zero m
 
--- an infinity by a zero, by another number, and on the other side
+-- an infinity by a zero, and by another number
 pub infinite_by_zero : (s : Bool) (y : Float) (t : Bool) (b l : ℕ) → 0 < l → HasValue y t b l → b ≡ 0 → exact_product (inf s) y ≡ nan
 infinite_by_zero s nan t b l L h z = absurd h
 infinite_by_zero s (inf t') t b l L h z = absurd h
@@ -78,13 +78,17 @@ unlike_comm true false = refl
 unlike_comm false true = refl
 unlike_comm false false = refl
 
-pub by_infinite : (x y : Float) (s : Bool) → y ≡ inf s → exact_product x y ≡ exact_product y x
-by_infinite x y s e = ap (exact_product x) e ∙ turned x s ∙ ap (λ (z : Float). exact_product z x) (sym e)
-  where
-    turned : (x : Float) (s : Bool) → exact_product x (inf s) ≡ exact_product (inf s) x
-    turned nan s = refl
-    turned (inf t) s = ap inf (unlike_comm t s)
-    turned (fin t n d) s = ap (λ (v : Bool). cond (eqb n 0) nan (inf v)) (unlike_comm t s)
+pub exact_product_comm : (x y : Float) → exact_product x y ≡ exact_product y x
+exact_product_comm nan nan = refl
+exact_product_comm nan (inf t) = refl
+exact_product_comm nan (fin t n d) = refl
+exact_product_comm (inf s) nan = refl
+exact_product_comm (inf s) (inf t) = ap inf (unlike_comm s t)
+exact_product_comm (inf s) (fin t n d) = ap (λ (v : Bool). cond (eqb n 0) nan (inf v)) (unlike_comm s t)
+exact_product_comm (fin s m e) nan = refl
+exact_product_comm (fin s m e) (inf t) = ap (λ (v : Bool). cond (eqb m 0) nan (inf v)) (unlike_comm s t)
+exact_product_comm (fin s m e) (fin t n d) =
+    ap (λ (v : Bool). fin v (m * n) (e +ℤ d)) (unlike_comm s t) ∙ ap (λ (v : ℕ). fin (unlike t s) v (e +ℤ d)) (mul_comm m n) ∙ ap (λ (v : ℤ). fin (unlike t s) (n * m) v) (+ℤ_comm e d)
 
 -- ---- the size of a product
 four : (a b x y : ℕ) → a * b * (x * y) ≡ a * x * (b * y)

@@ -1,4 +1,4 @@
--- What `fused_of` promises, apart from the code. In all but the last three, x, y and z are finite values of binary32.
+-- What `fused_of` promises, apart from the code. In all but the last four, x, y and z are finite values of binary32.
 use Rattle.std.proofs.Common.{◌≡◌, sym, ap, ◌∙◌, subst, ◌⊎◌, inl, inr, ℕ, ◌-◌, ◌*◌, ◌/◌, ◌+◌, ◌^◌, ◌<◌, ◌≤◌, pos, nat_abs, Bool, false, IsTrue, int_lt, mul_assoc, lt_of_lt_of_le, le_of_eq, le_trans, lit<, pow-add, pow_pos, arith, Float}
 use Rattle.std.proofs.Math.Nat.{eq_of_mul-eq-mul_right}
 use Rattle.std.proofs.lemmas.Bool.{cases_lt}
@@ -8,6 +8,7 @@ use Rattle.std.specs.Float.Ieee.Exact.{HasValue}
 use Rattle.std.specs.Float.Ieee.Nearest.{closest}
 use Rattle.fused.specs.Fused.{fused_of}
 use Rattle.fused.specs.Words.{IsValue, signed, units_of, exact_of, error_of, IsEven, overflow, SameButZero}
+use Rattle.fused.proofs.Exact.{exact_product_comm}
 use Rattle.fused.proofs.Library.{product_by_one, product_plus_zero, is_float_mul_add}
 use Rattle.fused.proofs.Results.{taken, sums, result_of, finite_value, result_fits, below_top, has_value, error_is, error_at, near, even, last_digit, from_top, under_all, size_is, sign_is}
 use Rattle.fused.proofs.Rounding.{pow_eq}
@@ -76,6 +77,11 @@ even_at_tie x y z w a b c d f g u =
     ∙ ap (λ (b : Bool). signed b m) e
     ∙ ap (signed s) (eq_of_mul-eq-mul_right (2 ^ 149) (pow_pos 149) m (p * 2 ^ k) (i ∙ ap (λ (j : ℕ). p * j) (pow_eq (omega arith) ∙ pow-add 2 k 149) ∙ sym (mul_assoc p (2 ^ k) (2 ^ 149))))
     ∙ sym (units_is (fused_of x y z) s (p * 2 ^ k) (has_value x y z n s k r l)))))
+
+-- x and y may be swapped
+pub swapped : (x y z : Float) → fused_of x y z ≡ fused_of y x z
+unfolding fused_of
+swapped x y z = ap (λ (p : Float). add binary32 p z) (exact_product_comm x y)
 
 -- x * 1 + z is the library's sum x + z
 pub by_one : (x z : Float) → fused_of x (fin false 1 (pos 0)) z ≡ add binary32 x z

@@ -1,6 +1,5 @@
-use Rattle.std.proofs.Common.{◌≡◌, sym, subst, ◌^◌, Float}
-use Rattle.std.specs.Float.{inf}
-use Rattle.fused.proofs.Exact.{exact_product_value, by_infinite}
+use Rattle.std.proofs.Common.{subst, ◌^◌, Float}
+use Rattle.fused.proofs.Exact.{exact_product_value, exact_product_comm}
 use Rattle.fused.specs.Steps.{size_of, StandsFor}
 use Rattle.fused.proofs.combine.product.Goals as goal
 
@@ -16,5 +15,4 @@ returns-in-Number-Infinite-clause-value c =
     let n = c.in-Number-Infinite in
     let r = c.infinite_product-in-Number-Infinite in
     λ x y p q.
-    let i : y ≡ inf n.s = rw n.is-1 at q in
-    subst (λ (z : Float). StandsFor 298 z r.result) (sym (by_infinite x y n.s i)) (r.ensures.value y x i (rw n.is-0 at p))
+    subst (λ (z : Float). StandsFor 298 z r.result) (exact_product_comm y x) (r.ensures.value y x (rw n.is-1 at q) (rw n.is-0 at p))
