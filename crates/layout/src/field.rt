@@ -1,6 +1,6 @@
 // The words of the state by name: each is a number or a flag, with one reader and one writer for all.
 ghost use Rattle.std.specs.Prelude.{◌≡◌, ◌<◌, ◌+◌, ◌*◌, ◌^◌, ℕ, Bool, List, slice_index, slice_set};
-ghost use Rattle.layout.specs.Sizes.{Whole, node_part, node_words, edge_part, edge_words, flag_at, set_flag};
+ghost use Rattle.layout.specs.Sizes.{node_part, node_words, edge_part, edge_words, flag_at, set_flag};
 ghost use Rattle.layout.specs.Number.{number_of, set_number};
 ghost use Rattle.layout.specs.Flag.{flag_of, put_flag};
 
@@ -100,8 +100,7 @@ impl Number {
 
     /// The number that the state holds.
     pub fn get(self, state: &Words) -> usize
-        ensures value { result ≡ number_of state.now self }
-        ensures whole { Whole state.now }
+        ensures { result ≡ number_of state.now self }
     {
         // The library has no `From` between a word and an index, and the check proves that the cast loses nothing; so too below.
         state[self.word()] as usize
