@@ -1,0 +1,15 @@
+pub mod Sets
+pub mod Laws
+pub mod Lists
+pub mod Clearing
+pub mod Promises
+pub mod Counting
+pub mod Bounds
+pub mod Cases
+pub mod Runs
+pub mod Steps
+pub mod Storing
+pub mod Settling
+pub mod Stored
+pub mod Passing
+pub mod Shown

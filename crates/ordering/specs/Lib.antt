@@ -1,0 +1,7 @@
+pub mod Walk
+pub mod View
+pub mod Order
+pub mod Promise
+pub mod Marked
+pub mod State
+pub mod Shown
