@@ -17,7 +17,9 @@ use Rattle.ordering.specs.Walk.{Notes, flag}
 use Rattle.ordering.specs.Order.{Graph, Ordered, breaks, targets, fresh, pass, sounding, silent, ordered_from, ordered}
 use Rattle.ordering.specs.Promise.{Sound}
 use Rattle.ordering.specs.View.{Bounded}
-use Rattle.ordering.specs.State.{graph_of, clear, put_order, put_muted, settle, Ordering, order_from, order_nodes}
+use Rattle.ordering.specs.Listing.{put_list}
+use Rattle.ordering.specs.declared.list.IdList.TheVariants.{Order, Muted}
+use Rattle.ordering.specs.State.{graph_of, clear, settle, Ordering, order_from, order_nodes}
 use Rattle.ordering.specs.Shown.{Shows}
 use Rattle.ordering.proofs.Laws.{heap, Result}
 use Rattle.ordering.proofs.Lists.{all_from_in, contains_from_in, filter_reverse, filter_in, distinct_filter, no_longer}
@@ -66,13 +68,13 @@ module _ (c a : ℕ) where
       let e : a + (k + suc j) ≡ a + (k + 1 + j) = omega arith in
       ap (slice_index (put c a (slice_set s (a + k) x) xs (k + 1))) e ∙ put_at xs (slice_set s (a + k) x) (k + 1) j (whole_set s (a + k) x w) h (omega arith) (omega arith)
 
-put_order_is : (xs s : List ℕ) (k : ℕ) → put_order s xs k ≡ put 5 order_part s xs k
-unfolding put_order put
+put_order_is : (xs s : List ℕ) (k : ℕ) → put_list Order s xs k ≡ put 5 order_part s xs k
+unfolding put_list put
 put_order_is [] s k = refl
 put_order_is (x ∷ xs) s k = put_order_is xs (set_order_at s k x) (k + 1)
 
-put_muted_is : (xs s : List ℕ) (k : ℕ) → put_muted s xs k ≡ put 6 muted_part s xs k
-unfolding put_muted put
+put_muted_is : (xs s : List ℕ) (k : ℕ) → put_list Muted s xs k ≡ put 6 muted_part s xs k
+unfolding put_list put
 put_muted_is [] s k = refl
 put_muted_is (x ∷ xs) s k = put_muted_is xs (set_muted_at s k x) (k + 1)
 
@@ -118,9 +120,9 @@ module _ (s xs ys : List ℕ) (w : Whole s) (l : length xs ≤ id_room) (m : len
       ap (λ (n : ℕ). listed (edge_at both) n 0) (both_other 7 (λ q. omega arith) (λ q. omega arith) (inl (omega arith)))
       ∙ listed_ext (edge_at both) (edge_at s) (edge_count s) 0 (λ e h. rw (word (0 + e) 0, word (0 + e) 1, word (0 + e) 2, word (0 + e) 3) refl)
 
-  both_is : put_muted (put_order s xs 0) ys 0 ≡ both
+  both_is : put_list Muted (put_list Order s xs 0) ys 0 ≡ both
   unfolding both
-  both_is = put_muted_is ys (put_order s xs 0) 0 ∙ ap (λ (t : List ℕ). put 6 muted_part t ys 0) (put_order_is xs s 0)
+  both_is = put_muted_is ys (put_list Order s xs 0) 0 ∙ ap (λ (t : List ℕ). put 6 muted_part t ys 0) (put_order_is xs s 0)
 
   both_nodes : SameNodes s both
   both_nodes k h i = both_other k (λ q. omega arith) (λ q. omega arith) (inr h)

@@ -6,31 +6,24 @@ use Rattle.std.proofs.lemmas.List.{at_drop_more, at_drop_all, append-nil, length
 use Rattle.std.proofs.lemmas.List.Elements.{filter-append, filter_more}
 use Rattle.tally.specs.Listed.{passing}
 use Rattle.layout.specs.Sizes.{id_room}
-use Rattle.layout.specs.Header.{edge_count, set_edge_count, set_order_length, set_muted_length}
-use Rattle.layout.specs.Lists.{set_order_at, set_muted_at}
+use Rattle.layout.specs.Header.{edge_count, set_edge_count}
 use Rattle.layout.specs.Edge.{edge_at, edge_word, set_edge_at}
 use Rattle.layout.specs.Node.{is_present}
 use Rattle.layout.specs.Views.{present_of}
 use Rattle.ordering.specs.Walk.{Notes, flag}
 use Rattle.ordering.specs.Order.{sounding, silent}
-use Rattle.ordering.specs.State.{clear_from, clear, put_order, put_muted}
+use Rattle.ordering.specs.State.{clear_from, clear}
+use Rattle.ordering.specs.Listing.{set_at, set_length, put_list}
+use Rattle.ordering.specs.declared.list.IdList.{IdList}
 
 -- storing
-pub order_on : (s ids : List ℕ) (k : ℕ) → k < length ids → put_order (set_order_at s k (get_or ids k 0)) (drop (k + 1) ids) (k + 1) ≡ put_order s (drop k ids) k
-unfolding put_order
-order_on s ids k l = sym (at_drop_more (λ xs. put_order s xs k) ids k 0 l)
+pub list_on : (list : IdList) (s ids : List ℕ) (k : ℕ) → k < length ids → put_list list (set_at list s k (get_or ids k 0)) (drop (k + 1) ids) (k + 1) ≡ put_list list s (drop k ids) k
+unfolding put_list
+list_on list s ids k l = sym (at_drop_more (λ xs. put_list list s xs k) ids k 0 l)
 
-pub order_end : (s ids : List ℕ) (k : ℕ) → length ids ≤ k → put_order s (drop k ids) k ≡ set_order_length s k
-unfolding put_order
-order_end s ids k l = at_drop_all (λ xs. put_order s xs k) ids k l
-
-pub muted_on : (s ids : List ℕ) (k : ℕ) → k < length ids → put_muted (set_muted_at s k (get_or ids k 0)) (drop (k + 1) ids) (k + 1) ≡ put_muted s (drop k ids) k
-unfolding put_muted
-muted_on s ids k l = sym (at_drop_more (λ xs. put_muted s xs k) ids k 0 l)
-
-pub muted_end : (s ids : List ℕ) (k : ℕ) → length ids ≤ k → put_muted s (drop k ids) k ≡ set_muted_length s k
-unfolding put_muted
-muted_end s ids k l = at_drop_all (λ xs. put_muted s xs k) ids k l
+pub list_end : (list : IdList) (s ids : List ℕ) (k : ℕ) → length ids ≤ k → put_list list s (drop k ids) k ≡ set_length list s k
+unfolding put_list
+list_end list s ids k l = at_drop_all (λ xs. put_list list s xs k) ids k l
 
 -- the muted ids among those present
 pub passing_none : (p : ℕ → Bool) (k : ℕ) → passing p 0 k ≡ []

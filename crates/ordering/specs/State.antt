@@ -1,10 +1,11 @@
 -- The ordering as the state holds it: a definition for what each step leaves of the words.
-use Rattle.std.specs.Prelude.{ℕ, zero, suc, ◌+◌, if◌then◌else◌, List, [], ◌∷◌, Option, Some, None, ◌==◌}
-use Rattle.layout.specs.Header.{edge_count, set_edge_count, set_order_length, set_muted_length}
-use Rattle.layout.specs.Lists.{set_order_at, set_muted_at}
+use Rattle.std.specs.Prelude.{ℕ, zero, suc, ◌+◌, if◌then◌else◌, List, Option, Some, None, ◌==◌}
+use Rattle.layout.specs.Header.{edge_count, set_edge_count}
 use Rattle.layout.specs.Edge.{edge_at, set_edge_at}
 use Rattle.layout.specs.Views.{edges_of, present_of, breakers_of}
 use Rattle.ordering.specs.Walk.{Notes}
+use Rattle.ordering.specs.Listing.{put_list}
+use Rattle.ordering.specs.declared.list.IdList.TheVariants.{Order, Muted}
 use Rattle.ordering.specs.Order.{Graph, pass, sounding, silent}
 
 -- the graph that the state holds
@@ -22,19 +23,9 @@ clear_from b s (suc n) i j =
 unfoldable pub clear : List ℕ → ℕ → List ℕ
 clear s b = clear_from b s (edge_count s) 0 0
 
--- some ids stored as the order from place k on, and then how many they are
-unfoldable pub put_order : List ℕ → List ℕ → ℕ → List ℕ
-put_order s [] k = set_order_length s k
-put_order s (x ∷ xs) k = put_order (set_order_at s k x) xs (k + 1)
-
--- the same for the muted list
-unfoldable pub put_muted : List ℕ → List ℕ → ℕ → List ℕ
-put_muted s [] k = set_muted_length s k
-put_muted s (x ∷ xs) k = put_muted (set_muted_at s k x) xs (k + 1)
-
 -- what a pass leaves: order and muted list are stored unless it found a breaker
 unfoldable pub settle : List ℕ → Notes → Option ℕ → List ℕ
-settle s n None = put_muted (put_order s (sounding n) 0) (silent n (present_of s)) 0
+settle s n None = put_list Muted (put_list Order s (sounding n) 0) (silent n (present_of s)) 0
 settle s n (Some b) = s
 
 -- the state after the ordering, and how many passes there were

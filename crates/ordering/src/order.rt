@@ -1,14 +1,15 @@
 // The order and the muted list that a pass leaves, and the passes until one finds no breaker.
-ghost use Rattle.std.specs.Prelude.{◌≡◌, ◌<◌, ◌≤◌, None, length};
+ghost use Rattle.std.specs.Prelude.{◌≡◌, ◌<◌, None};
 ghost use Rattle.std.specs.List.{All};
 ghost use Rattle.layout.specs.Edge.{edge_at, set_edge_at};
 ghost use Rattle.layout.specs.Views.{present_of};
 ghost use Rattle.ordering.specs.Order.{pass, fresh, sounding, silent, ordered};
 ghost use Rattle.ordering.specs.Promise.{Sound, Promised, Unbounded};
 ghost use Rattle.ordering.specs.View.{notes, index_of, Bounded};
-ghost use Rattle.ordering.specs.State.{graph_of, clear, put_order, put_muted, settle, order_nodes};
+ghost use Rattle.ordering.specs.State.{graph_of, clear, settle, order_nodes};
 ghost use Rattle.ordering.specs.Shown.{Shows};
 
+use crate::list::IdList;
 use crate::pass::Pass;
 use arrayvec::ArrayVec;
 use layout::edge::Edge;
@@ -63,32 +64,6 @@ impl Pass {
     }
 }
 
-// Stores the order.
-#[tactic(auto, using(crate::proofs::Storing::order_on, crate::proofs::Storing::order_end))]
-fn put_order(state: &mut Words, ids: &[usize])
-    requires low { All (λ x. x < IDS) ids.now }
-    requires few { length ids.now ≤ IDS }
-    ensures { state.new ≡ put_order state.old ids.now 0 }
-{
-    for (index, x) in ids.iter().enumerate() {
-        Number::Order(Below { index }).set(state, *x);
-    }
-    Number::OrderLength.set(state, ids.len());
-}
-
-// Stores the muted list.
-#[tactic(auto, using(crate::proofs::Storing::muted_on, crate::proofs::Storing::muted_end))]
-fn put_muted(state: &mut Words, ids: &[usize])
-    requires low { All (λ x. x < IDS) ids.now }
-    requires few { length ids.now ≤ IDS }
-    ensures { state.new ≡ put_muted state.old ids.now 0 }
-{
-    for (index, x) in ids.iter().enumerate() {
-        Number::Muted(Below { index }).set(state, *x);
-    }
-    Number::MutedLength.set(state, ids.len());
-}
-
 // Stores the edge of one place at another.
 fn move_edge(state: &mut Words, from: EdgePlace, to: EdgePlace)
     ensures { state.new ≡ set_edge_at state.old to.index (edge_at state.old from.index) }
@@ -124,8 +99,8 @@ fn settle(state: &mut Words) -> Option<Id>
     if found.is_none() {
         let order = pass.sounding();
         let muted = pass.silent(state);
-        put_order(state, &order);
-        put_muted(state, &muted);
+        IdList::Order.put(state, &order);
+        IdList::Muted.put(state, &muted);
     }
     found
 }

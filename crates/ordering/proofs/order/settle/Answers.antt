@@ -19,9 +19,9 @@ returns-then-is_none-clause-state c =
     let n = notes c.run-found.new.self (index_of c.run-found.result) in
     let e = found_none c.run-found.result (c.is_none.ensures ∙ ap not c.if-is_none.true) in
     let m = ap (notes c.run-found.new.self) (sym e) in
-    settled_none c.args.state.now c.put_order.new.state c.put_muted.new.state _ _ n
+    settled_none c.args.state.now c.put.new.state c.put-then-is_none.new.state _ _ n
     (pass_is c.args.state.now n (notes c.new-pass.result None) c.new-pass.ensures (c.run-found.ensures (id_room + 1) (unmet_of c.new-pass.result c.new-pass.ensures)))
-    e c.put_order.ensures c.put_muted.ensures (c.deref.ensures.0 ∙ c.sounding-order.ensures.ids ∙ ap sounding m)
+    e c.put.ensures c.put-then-is_none.ensures (c.deref.ensures.0 ∙ c.sounding-order.ensures.ids ∙ ap sounding m)
     (c.deref-then-is_none.ensures.0 ∙ c.silent-muted.ensures.ids ∙ ap (λ (k : Notes). silent k (present_of c.args.state.now)) m)
 
 pub returns-else-is_none-clause-found : goal.returns-else-is_none-clause-found
