@@ -1,0 +1,5 @@
+pub mod Zeros
+pub mod Counts
+pub mod Ledgers
+pub mod Relied
+pub mod Orders

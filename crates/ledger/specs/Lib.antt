@@ -1,0 +1,4 @@
+pub mod Listed
+pub mod Ranges
+pub mod Ledger
+pub mod Tests

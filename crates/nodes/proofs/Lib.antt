@@ -1,0 +1,12 @@
+pub mod Going
+pub mod Frames
+pub mod EdgeWords
+pub mod EdgeLaws
+pub mod NodeLaws
+pub mod Silencing
+pub mod Emptying
+pub mod Written
+pub mod PortRows
+pub mod Added
+pub mod Freed
+pub mod Shown
