@@ -6,32 +6,16 @@
  * at one number. No input comes twice. How many of each kind there are goes to standard error. */
 #include <inttypes.h>
 #include <math.h>
-#include <stdint.h>
 #include <stdio.h>
-#include <string.h>
+
+#include "fused_inputs.h"
 
 enum { MOST = 8192 };
-
-typedef struct {
-    uint32_t a, b, c;
-} Input;
 
 static Input given[MOST];
 static size_t count;
 
 static const uint32_t SIGN = 0x80000000, ONE = 0x3f800000, LARGEST = 0x7f7fffff, INFINITE = 0x7f800000, FRACTION = 0x7fffff;
-
-static float value(uint32_t bits) {
-    float x;
-    memcpy(&x, &bits, sizeof x);
-    return x;
-}
-
-static uint32_t pattern(float x) {
-    uint32_t bits;
-    memcpy(&bits, &x, sizeof bits);
-    return bits;
-}
 
 static uint32_t fused(uint32_t a, uint32_t b, uint32_t c) {
     return pattern(fmaf(value(a), value(b), value(c)));
@@ -61,20 +45,6 @@ static void emit_signs(uint32_t a, uint32_t b, uint32_t c) {
 static void emit_both(uint32_t a, uint32_t b, uint32_t c) {
     emit(a, b, c);
     emit(a ^ SIGN, b, c ^ SIGN);
-}
-
-/* splitmix64 */
-static uint64_t next(void) {
-    static uint64_t state = 24;
-    uint64_t z = (state += 0x9e3779b97f4a7c15u);
-    z = (z ^ (z >> 30)) * 0xbf58476d1ce4e5b9u;
-    z = (z ^ (z >> 27)) * 0x94d049bb133111ebu;
-    return z ^ (z >> 31);
-}
-
-/* a number below n */
-static uint32_t below(uint32_t n) {
-    return (uint32_t)((next() >> 32) * n >> 32);
 }
 
 /* m * 2 ^ e: exact, since m has at most 24 digits and the value is in range */
@@ -335,6 +305,7 @@ int main(void) {
         fprintf(stderr, "this processor has no fused multiply-add\n");
         return 1;
     }
+    state = 24;
     for (size_t k = 0; k < sizeof kinds / sizeof *kinds; k++) {
         size_t before = count;
         kinds[k].emit_all();
