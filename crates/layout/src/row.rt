@@ -13,7 +13,7 @@ pub enum Side {
     Output,
 }
 
-/// The row of a port of a node.
+/// The row of a port of a node. Only this function asks that a port is below its bound, so that is a clause and no type.
 pub fn of(id: Id, side: Side, port: usize) -> Row
     requires { port < port_room }
     ensures { result.index ≡ port_row side id.index port }

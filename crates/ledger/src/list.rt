@@ -5,6 +5,7 @@ ghost use Rattle.ledger.specs.Listed.{listed_count, listed_at, AreThere, CoverAl
 ghost use Rattle.ledger.specs.Ranges.{HeaderInRange, EdgeInRange};
 ghost use Rattle.ledger.specs.Tests.{EdgesKept, ListsKept, IsPlaced, ListsRight};
 
+use layout::edge::Edge;
 use layout::field::{Flag, Number};
 use layout::index::{Below, EdgePlace};
 use layout::{IDS, Words};
@@ -94,8 +95,9 @@ fn leads_on(state: &Words, places: &[usize; IDS], e: EdgePlace) -> bool
     ensures { IsTrue result ↔ LeadsOn state.now e.index }
 {
     let order = Number::OrderLength.get(state);
-    let source = places[Number::Source(e).get(state)];
-    let target = places[Number::Target(e).get(state)];
+    let edge = Edge::read(state, e);
+    let source = places[edge.source];
+    let target = places[edge.target];
     source >= order || target >= order || source < target
 }
 

@@ -70,7 +70,7 @@ fn is_bounded(state: &Words) -> bool
         return false;
     }
     for e in 0..count {
-        if Number::Target(Below { index: e }).get(state) >= IDS {
+        if Edge::read(state, Below { index: e }).target >= IDS {
             return false;
         }
     }

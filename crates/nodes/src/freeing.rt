@@ -7,6 +7,7 @@ ghost use Rattle.nodes.specs.Nodes.{has_edges, can_free, ports_empty, node_freed
 ghost use Rattle.nodes.specs.Kept.{Freed};
 
 use crate::edges::{clear_into, clear_out};
+use layout::edge::Edge;
 use layout::field::{Flag, Number};
 use layout::index::{Below, Id};
 use layout::row::{Side, of};
@@ -20,7 +21,7 @@ fn has_edges(state: &Words, id: Id) -> bool
     ensures { result ≡ has_edges state.now id.index }
 {
     for e in 0..Number::EdgeCount.get(state) {
-        if Number::Source(Below { index: e }).get(state) == id.index {
+        if Edge::read(state, Below { index: e }).source == id.index {
             return true;
         }
     }

@@ -80,7 +80,7 @@ fn clear(state: &mut Words, breaker: Id)
     let mut kept = 0;
     for e in 0..Number::EdgeCount.get(state) {
         let place = Below { index: e };
-        if Number::Source(place).get(state) != breaker.index {
+        if Edge::read(state, place).source != breaker.index {
             move_edge(state, place, Below { index: kept });
             kept += 1;
         }
